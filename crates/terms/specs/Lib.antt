@@ -1,0 +1,7 @@
+pub mod Codes
+pub mod Faults
+pub mod Forms
+pub mod Tables
+pub mod Reading
+pub mod Writing
+pub mod WellFormed

@@ -1,0 +1,5 @@
+pub mod Lists
+pub mod Kinds
+pub mod Labels
+pub mod Entities
+pub mod Naming
