@@ -1,0 +1,4 @@
+pub mod Steps
+pub mod Building
+pub mod Parsing
+pub mod Placing
