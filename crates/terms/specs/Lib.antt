@@ -1,5 +1,5 @@
 pub mod Codes
-pub mod Faults
+pub mod Refusals
 pub mod Forms
 pub mod Tables
 pub mod Reading

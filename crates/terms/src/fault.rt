@@ -1,5 +1,7 @@
 ghost use mathlib.Core.Path.{_≡_};
-ghost use Rattle.terms.specs.Faults.{itemNumber, itemPlace};
+ghost use Rattle.terms.specs.Refusals.{itemRefusal};
+use vocabulary::Layer;
+use vocabulary::Refusal;
 
 // The first faulty item of a body, with its offset there. An item is a code, a count, a direction byte or a
 // name number.
@@ -20,31 +22,17 @@ pub enum ItemFault {
 }
 
 impl ItemFault {
-    // The number of the refusal, 10 to 15.
-    pub fn number(self) -> u8
-        ensures { λ r. ⌜ r ≡ itemNumber self ⌝ }
+    pub fn refusal(self) -> Refusal
+        ensures { λ r. ⌜ r ≡ itemRefusal self ⌝ }
     {
-        match self {
-            ItemFault::TooDeep(_) => 10,
-            ItemFault::CutShort(_) => 11,
-            ItemFault::UnknownCode(_) => 12,
-            ItemFault::UnknownDirection(_) => 13,
-            ItemFault::WrongName(_) => 14,
-            ItemFault::ZeroCount(_) => 15,
-        }
-    }
-
-    // The offset of the faulty item in its body.
-    pub fn place(self) -> usize
-        ensures { λ r. ⌜ r ≡ itemPlace self ⌝ }
-    {
-        match self {
-            ItemFault::TooDeep(at) => at,
-            ItemFault::CutShort(at) => at,
-            ItemFault::UnknownCode(at) => at,
-            ItemFault::UnknownDirection(at) => at,
-            ItemFault::WrongName(at) => at,
-            ItemFault::ZeroCount(at) => at,
-        }
+        let (number, place) = match self {
+            ItemFault::TooDeep(at) => (10, at),
+            ItemFault::CutShort(at) => (11, at),
+            ItemFault::UnknownCode(at) => (12, at),
+            ItemFault::UnknownDirection(at) => (13, at),
+            ItemFault::WrongName(at) => (14, at),
+            ItemFault::ZeroCount(at) => (15, at),
+        };
+        Refusal { number, layer: Layer::Item, place }
     }
 }

@@ -4,6 +4,7 @@ use mathlib.Core.List.{List, [], _∷_}
 use Prim.Native.Nat.{ℕ, zero, suc}
 use lib.ListN.{take}
 use Rattle.std.specs.shelf.Text.{sameBytes}
+use Rattle.std.specs.Options.{mapped}
 use Rattle.std.specs.declared.option.Option.{Option}
 use Rattle.std.specs.declared.option.Option.the-variants.{Some, None}
 use Rattle.std.specs.declared.result.Result.{Result}
@@ -50,8 +51,18 @@ abbrev pub distinct : List Entity → Bool
 distinct [] = true
 distinct (e ∷ es) = not (held (e .kind) (e .label) es) && distinct es
 
--- the kind of the name with a number, if there is one
+-- the name with a number, if there is one
+abbrev pub entityAt : List Entity → ℕ → Option Entity
+entityAt [] n = None
+entityAt (e ∷ es) zero = Some e
+entityAt (e ∷ es) (suc n) = entityAt es n
+
+-- its kind
 abbrev pub kindAt : List Entity → ℕ → Option Kind
-kindAt [] n = None
-kindAt (e ∷ es) zero = Some (e .kind)
-kindAt (e ∷ es) (suc n) = kindAt es n
+kindAt es n = mapped (λ e. e .kind) (entityAt es n)
+
+-- the name with this number is seeded or not, as `on` says; every other stays as it was
+abbrev pub reseed : List Entity → ℕ → Bool → List Entity
+reseed [] n on = []
+reseed (e ∷ es) zero on = record { kind = e .kind; label = e .label; seeded = on } ∷ es
+reseed (e ∷ es) (suc n) on = e ∷ reseed es n on

@@ -3,3 +3,4 @@ pub mod Kinds
 pub mod Labels
 pub mod Entities
 pub mod Naming
+pub mod Refusals

@@ -1,3 +1,8 @@
+ghost use mathlib.Core.Path.{_≡_};
+ghost use Rattle.vocabulary.specs.Refusals.{nameRefusal};
+use crate::refusal::Layer;
+use crate::refusal::Refusal;
+
 // Why a name is refused.
 #[derive(Clone, Copy)]
 pub enum NameFault {
@@ -11,4 +16,19 @@ pub enum NameFault {
     LabelTaken,
     // there are 1,024 names already
     TableFull,
+}
+
+impl NameFault {
+    pub fn refusal(self) -> Refusal
+        ensures { λ r. ⌜ r ≡ nameRefusal self ⌝ }
+    {
+        let number = match self {
+            NameFault::BadKind => 5,
+            NameFault::LabelLength => 6,
+            NameFault::LabelByte => 7,
+            NameFault::LabelTaken => 8,
+            NameFault::TableFull => 9,
+        };
+        Refusal { number, layer: Layer::Book, place: 0 }
+    }
 }

@@ -3,6 +3,7 @@ mod fault;
 mod kind;
 mod label;
 mod name;
+mod refusal;
 mod table;
 
 pub use fault::NameFault;
@@ -11,4 +12,7 @@ pub use kind::KindPartialEq;
 pub use label::Label;
 pub use name::Name;
 pub use name::NameId;
+pub use refusal::Layer;
+pub use refusal::LayerPartialEq;
+pub use refusal::Refusal;
 pub use table::Vocabulary;

@@ -1,9 +1,11 @@
 ghost use mathlib.Core.Path.{_≡_};
 ghost use mathlib.Core.List.{[]};
 ghost use Prim.Native.Nat.{_≤_};
+ghost use lib.Dec.{ltb};
 ghost use lib.ListN.{length};
 ghost use Rattle.std.specs.Vec.{made};
-ghost use Rattle.vocabulary.specs.Entities.{held, kindAt};
+ghost use Rattle.std.specs.Options.{mapped};
+ghost use Rattle.vocabulary.specs.Entities.{entity, entityAt, held, kindAt, reseed};
 ghost use Rattle.vocabulary.specs.Naming.{entities, naming, Gives};
 use crate::fault::NameFault;
 use crate::kind::Kind;
@@ -77,5 +79,30 @@ impl Vocabulary {
             seeded: false,
         });
         Ok(NameId(number as u16))
+    }
+
+    // The name with a number, if there is one.
+    pub fn get(&self, id: NameId) -> Option<&Name>
+        ensures { λ r. ⌜ mapped (λ n. entity (now n)) r ≡ entityAt (entities (now (self .entry))) (id .0) ⌝ }
+    {
+        let at = id.0 as usize;
+        if at < self.names.len() {
+            Some(&self.names[at])
+        } else {
+            None
+        }
+    }
+
+    // Puts a name into the signature or takes it out; false where no name has the number.
+    pub fn set_seeded(&mut self, id: NameId, on: bool) -> bool
+        ensures after { λ _. ⌜ entities (now (self .exit)) ≡ reseed (entities (now (self .entry))) (id .0) on ⌝ }
+        ensures value { λ r. ⌜ r ≡ ltb (id .0) (length (entities (now (self .entry)))) ⌝ }
+    {
+        let at = id.0 as usize;
+        if at >= self.names.len() {
+            return false;
+        }
+        self.names[at].seeded = on;
+        true
     }
 }
