@@ -20,6 +20,7 @@ pub data Form : Type 0 where
   both : Form → Form → Form
   exists : RoleItem → Form → Form
   at-least : ℕ → RoleItem → Form → Form
+  deriving IsSet as form-set
 
 -- what an axiom states
 pub data Rule : Type 0 where
@@ -30,6 +31,7 @@ pub data Rule : Type 0 where
   functional : RoleItem → Rule
   member : NameId → Form → Rule
   related : NameId → NameId → NameId → Rule
+  deriving IsSet as rule-set
 
 -- a term with no term inside has nesting 1, every other one more than its deepest inner term
 abbrev pub nesting : Form → ℕ

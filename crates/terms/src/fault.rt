@@ -33,6 +33,10 @@ impl ItemFault {
             ItemFault::WrongName(at) => (14, at),
             ItemFault::ZeroCount(at) => (15, at),
         };
-        Refusal { number, layer: Layer::Item, place }
+        Refusal {
+            number,
+            layer: Layer::Item,
+            place,
+        }
     }
 }

@@ -29,6 +29,10 @@ impl NameFault {
             NameFault::LabelTaken => 8,
             NameFault::TableFull => 9,
         };
-        Refusal { number, layer: Layer::Book, place: 0 }
+        Refusal {
+            number,
+            layer: Layer::Book,
+            place: 0,
+        }
     }
 }
