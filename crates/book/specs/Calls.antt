@@ -1,9 +1,9 @@
 -- What each call does to a book's contents, and what it answers. A refused call changes nothing.
 use mathlib.Core.Path.{_≡_}
-use mathlib.Core.Bool.{Bool, true, false, cond}
+use mathlib.Core.Bool.{Bool, true, false, cond, _&&_}
 use mathlib.Core.List.{List, [], _∷_, _++_, map}
 use Prim.Native.Nat.{ℕ, _+_}
-use lib.Dec.{ltb, leb}
+use lib.Dec.{ltb, leb, eqb}
 use lib.ListN.{length}
 use Rattle.std.specs.Of.Vec.{vec-items}
 use Rattle.std.specs.declared.option.Option.{Option}
@@ -34,6 +34,10 @@ contents b = record { names = entities (b .names); axioms = map (filing (nodesOf
 -- a book with nothing in it
 abbrev pub empty : Contents
 empty = record { names = []; axioms = [] }
+
+-- a book with no name and no axiom
+abbrev pub blank : Contents → Bool
+blank b = eqb (length (b .names)) 0 && eqb (length (b .axioms)) 0
 
 -- the book holds what the turn leaves, and r is its answer
 pub record Gives {A F : Type 0} (b : Book) (r : Result A F) (turn : Turn Contents A F) : Type 0 where

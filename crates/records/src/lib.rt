@@ -1,9 +1,8 @@
 // Files of records, and loading them into a draft.
 mod fault;
-mod load;
+mod loading;
 mod reader;
+mod taking;
 
 pub use fault::LoadFault;
-pub use load::load;
-pub use reader::Record;
-pub use reader::RecordReader;
+pub use loading::load;

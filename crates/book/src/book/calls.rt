@@ -5,7 +5,7 @@ ghost use Prim.Native.Nat.{_+_, _≤_};
 ghost use lib.ListN.{length};
 ghost use Rattle.std.specs.Of.Vec.{vec-items};
 ghost use Rattle.std.specs.Vec.{made};
-ghost use Rattle.book.specs.Calls.{Gives, contents, empty, naming-call, seeding-call, forcing-call, filing-call, admission, obstacle-of};
+ghost use Rattle.book.specs.Calls.{Gives, contents, empty, blank, naming-call, seeding-call, forcing-call, filing-call, admission, obstacle-of};
 use crate::book::AxiomId;
 use crate::book::Book;
 use crate::book::Draft;
@@ -37,6 +37,13 @@ impl Book {
         ensures { λ r. ⌜ now r ≡ now (self .entry) .terms ⌝ }
     {
         &self.terms
+    }
+
+    // Whether the book has no name and no axiom.
+    pub fn is_blank(&self) -> bool
+        ensures { λ r. ⌜ r ≡ blank (contents (now (self .entry))) ⌝ }
+    {
+        self.names.count() == 0 && self.axioms.len() == 0
     }
 
     // The axioms in the order filed.
