@@ -13,7 +13,9 @@ use terms::Axiom;
 use terms::Terms;
 use vocabulary::Vocabulary;
 
-mod calls;
+mod contents;
+mod drafting;
+mod freezing;
 
 // The number of an axiom: axioms are numbered from 0 in the order filed.
 #[derive(Clone, Copy)]
