@@ -33,5 +33,5 @@ for script in "$here"/scripts/*.script "$here"/nocall/*.script; do
     fi
     bad=$((bad + 1))
 done
-echo "$good as expected, $bad not"
+echo "$good passed, $bad failed"
 [ "$bad" -eq 0 ]
