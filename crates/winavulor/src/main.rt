@@ -9,6 +9,7 @@ mod notation;
 mod script;
 mod tally;
 mod told;
+mod verdicts;
 
 use book::Draft;
 use command::Command;
@@ -27,6 +28,9 @@ use std::env;
 use std::fs;
 use tally::Tally;
 use tally::TallyDisplay;
+use verdicts::Verdicts;
+use verdicts::VerdictsDisplay;
+use verdicts::signature;
 
 fn read(rt: &LibcRuntime, path: &str) -> Result<Vec<u8>, Failure> {
     match fs::read(rt, path) {
@@ -55,7 +59,11 @@ fn check(rt: &LibcRuntime, path: &str) -> Result<(), Failure> {
 
 fn show(rt: &LibcRuntime, path: &str) -> Result<(), Failure> {
     let (draft, _) = loaded(rt, path)?;
-    rt.print(format!(rt.alloc(), "{}", Listing(draft.book()))?)?;
+    let book = draft.book();
+    let listed = signature(rt.alloc(), book)?;
+    rt.print(format!(rt.alloc(), "{}", Listing(book))?)?;
+    rt.println("locality against the signature:")?;
+    rt.print(format!(rt.alloc(), "{}", Verdicts(book, listed.as_slice()))?)?;
     Ok(())
 }
 
