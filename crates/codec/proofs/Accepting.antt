@@ -20,11 +20,12 @@ use Rattle.codec.specs.Building.{Builds}
 use Rattle.codec.specs.Parsing.{Accepts, Refuses}
 use Rattle.codec.proofs.Chains.{begins-same}
 
-pub accepts : {b0 b1 : BodyReader} {t0 t1 : List Term} {x : Axiom} {k : AxiomKind} → b0 .at ≡ 0 → ((i : ℕ) → getD (bytes b0) i 0 < 256) → Builds rule b0 t0 (Ok x) b1 t1 (readAxiom (bytes b0) (entitiesOf b0) k) → Accepts t0 (entitiesOf b0) k (bytes b0) (record { «axiom» = x; end = b1 .at }) t1
-accepts {b0} {b1} {t0} {t1} {x} {k} start typed p =
+pub accepts : {b0 b1 : BodyReader} {t0 t1 : List Term} {x : Axiom} {k : AxiomKind} → b0 .at ≡ 0 → length t0 + length (bytes b0) ≤ 33280 → ((i : ℕ) → getD (bytes b0) i 0 < 256) → Builds rule b0 t0 (Ok x) b1 t1 (readAxiom (bytes b0) (entitiesOf b0) k) → Accepts t0 (entitiesOf b0) k (bytes b0) (record { «axiom» = x; end = b1 .at }) t1
+accepts {b0} {b1} {t0} {t1} {x} {k} start room typed p =
     let reads = sym (p .reads t1 (begins-same t1)) in
     let same = same-bytes (bytes b0) (entitiesOf b0) k (rule t1 x) (b1 .at) typed reads in
     record {
+      roomy = room;
       begins = p .begins;
       few = omega (arith, p .frugal);
       reads = p .reads;
@@ -35,8 +36,9 @@ accepts {b0} {b1} {t0} {t1} {x} {k} start typed p =
     }
 
 -- what was appended is let go again
-pub refuses : {b0 b1 : BodyReader} {t0 t1 t2 : List Term} {e : ItemFault} {k : AxiomKind} → t2 ≡ take (length t0) t1 → Builds {X = Axiom} rule b0 t0 (Err e) b1 t1 (readAxiom (bytes b0) (entitiesOf b0) k) → Refuses t0 (entitiesOf b0) k (bytes b0) e t2
-refuses {t0 = t0} cut p = record {
+pub refuses : {b0 b1 : BodyReader} {t0 t1 t2 : List Term} {e : ItemFault} {k : AxiomKind} → length t0 + length (bytes b0) ≤ 33280 → t2 ≡ take (length t0) t1 → Builds {X = Axiom} rule b0 t0 (Err e) b1 t1 (readAxiom (bytes b0) (entitiesOf b0) k) → Refuses t0 (entitiesOf b0) k (bytes b0) e t2
+refuses {t0 = t0} room cut p = record {
+  roomy = room;
   same = cut ∙ ap (take (length t0)) (p .begins .grown) ∙ take-at t0 (p .begins .more) (length t0) refl;
   reads = p .reads;
 }

@@ -1,4 +1,3 @@
 pub mod Steps
 pub mod Building
 pub mod Parsing
-pub mod Placing

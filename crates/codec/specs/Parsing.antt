@@ -19,9 +19,11 @@ use Rattle.terms.specs.Writing.{bodyBytes, ruleKind}
 use Rattle.codec.specs.declared.parsed.Parsed.{Parsed}
 use Rattle.codec.specs.Building.{Begins}
 
--- the axiom is the one that the format gives, in every table that begins with this one; the table has grown by no more
--- nodes than the body has bytes. The axiom is well formed, and written it gives the bytes that were read
+-- there was room for as many nodes as the body has bytes, and the table has grown by no more. The axiom is the one that
+-- the format gives, in every table that begins with this one; it is well formed, and written it gives the bytes that were
+-- read
 pub record Accepts (old : List Term) (names : List Entity) (kind : AxiomKind) (body : List ℕ) (p : Parsed) (new : List Term) : Type 0 where
+  pub roomy : length old + length body ≤ 33280
   pub begins : Begins old new
   pub few : length new ≤ length old + length body
   pub reads : (later : List Term) → Begins new later → got (rule later (p .«axiom»)) (p .end) ≡ readAxiom body names kind
@@ -30,8 +32,9 @@ pub record Accepts (old : List Term) (names : List Entity) (kind : AxiomKind) (b
   pub within : p .end ≤ length body
   pub kind-kept : ruleKind (rule new (p .«axiom»)) ≡ kind
 
--- a fault is the one that the format gives, and leaves the table as it was
+-- there was room too; a fault is the one that the format gives, and leaves the table as it was
 pub record Refuses (old : List Term) (names : List Entity) (kind : AxiomKind) (body : List ℕ) (e : ItemFault) (new : List Term) : Type 0 where
+  pub roomy : length old + length body ≤ 33280
   pub same : new ≡ old
   pub reads : bad e ≡ readAxiom body names kind
 

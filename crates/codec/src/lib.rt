@@ -1,10 +1,8 @@
-// Reads and writes the bodies of axioms.
+// Reads the bodies of axioms.
 mod items;
 mod nested;
 mod parsed;
 mod reader;
-mod writer;
 
 pub use parsed::Parsed;
 pub use parsed::read_axiom;
-pub use writer::write_axiom;

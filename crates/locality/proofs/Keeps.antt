@@ -10,5 +10,5 @@ pub keeps-laws : (d : Filling) → TestLaws (λ r listed. localRule d listed r) 
 keeps-laws d = record {
   depends = λ r listed other same. local-depends d listed other r same;
   shrinks = λ r listed part fewer h. local-shrinks d listed part fewer r h;
-  holds = λ r listed w counts h. local-sound d listed w r counts h;
+  holds = λ r listed w has counts h. local-sound d listed w has r counts h;
 }

@@ -1,5 +1,5 @@
 pub mod Depends
 pub mod Shrinks
 pub mod Sound
-pub mod WellCounts
+pub mod Tabled
 pub mod Keeps

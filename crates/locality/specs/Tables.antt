@@ -1,8 +1,7 @@
--- The two tests, bottom and top: what names outside the list are set to, when a term is then empty or full in every
--- world, and when an axiom is local.
+-- The two tests, bottom and top: what names outside the list are set to, when a term counts as empty or as full by its
+-- form, and when an axiom is local.
 use mathlib.Core.Bool.{Bool, true, false, not, _&&_, _||_}
 use mathlib.Core.List.{List}
-use Prim.Native.Nat.{ℕ}
 use lib.ListN.{getD}
 use Rattle.vocabulary.specs.declared.name.NameId.{NameId}
 use Rattle.terms.specs.declared.term.RoleItem.{RoleItem}
@@ -36,7 +35,7 @@ module _ (d : Filling) (listed : Names) where
   abbrev pub roleOutside : RoleItem → Bool
   roleOutside r = outside (roleOf r)
 
-  -- no element is in the term, and every element is
+  -- the term is empty, or full, by its form: in a world whose names outside have the default no element is in it, or every
   abbrev mutual
     pub emptyTerm : Form → Bool
     emptyTerm nothing = true

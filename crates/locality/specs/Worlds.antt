@@ -1,5 +1,6 @@
 -- Finite worlds: what the names of a book may stand for.
-use mathlib.Core.Bool.{Bool, cond}
+use mathlib.Core.Path.{_≡_}
+use mathlib.Core.Bool.{Bool, false, cond}
 use Prim.Native.Nat.{ℕ, _<_}
 use Rattle.vocabulary.specs.declared.name.NameId.{NameId}
 
@@ -22,6 +23,11 @@ Names = NameId → Bool
 pub record Default : Type 0 where
   pub concept : ℕ → ℕ → Bool
   pub role : ℕ → ℕ → ℕ → Bool
+
+-- in this world the names outside the list have the default
+pub record HasDefault (d : Default) (listed : Names) (w : World) : Type 0 where
+  pub concepts : (n : NameId) (x : ℕ) → listed n ≡ false → x < w .size → w .concepts n x ≡ d .concept (w .size) x
+  pub roles : (n : NameId) (x y : ℕ) → listed n ≡ false → x < w .size → y < w .size → w .roles n x y ≡ d .role (w .size) x y
 
 -- the concept and role names outside the list are set to the default; nothing else changes
 abbrev pub reset : Default → Names → World → World

@@ -50,7 +50,7 @@ fn is_filled(filling: Filling, listed: &[bool], id: NameId) -> bool
     }
 }
 
-// No element is in the term, read down to a number of levels.
+// Whether the term is empty by its form, read down to a number of levels.
 fn is_empty(filling: Filling, terms: &Terms, listed: &[bool], id: TermId, levels: u8) -> bool
     ensures { λ r. ⌜ r ≡ emptyTerm filling (listedIn (now (listed .entry))) (form levels (nodesOf (now (terms .entry))) id) ⌝ }
 {
@@ -72,7 +72,7 @@ fn is_empty(filling: Filling, terms: &Terms, listed: &[bool], id: TermId, levels
     }
 }
 
-// Every element is in the term, read down to a number of levels.
+// Whether the term is full by its form, read down to a number of levels.
 fn is_full(filling: Filling, terms: &Terms, listed: &[bool], id: TermId, levels: u8) -> bool
     ensures { λ r. ⌜ r ≡ fullTerm filling (listedIn (now (listed .entry))) (form levels (nodesOf (now (terms .entry))) id) ⌝ }
 {
@@ -93,14 +93,14 @@ fn is_full(filling: Filling, terms: &Terms, listed: &[bool], id: TermId, levels:
     }
 }
 
-// No element is in the whole term.
+// Whether the whole term is empty by its form.
 fn never(filling: Filling, terms: &Terms, listed: &[bool], id: TermId) -> bool
     ensures { λ r. ⌜ r ≡ emptyTerm filling (listedIn (now (listed .entry))) (meaning (nodesOf (now (terms .entry))) id) ⌝ }
 {
     is_empty(filling, terms, listed, id, 24)
 }
 
-// Every element is in the whole term.
+// Whether the whole term is full by its form.
 fn always(filling: Filling, terms: &Terms, listed: &[bool], id: TermId) -> bool
     ensures { λ r. ⌜ r ≡ fullTerm filling (listedIn (now (listed .entry))) (meaning (nodesOf (now (terms .entry))) id) ⌝ }
 {

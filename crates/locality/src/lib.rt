@@ -1,4 +1,4 @@
-// Locality: when an axiom cannot matter against a list of names.
+// Locality: which axioms hold wherever the names outside a list have a default.
 mod checks;
 mod facts;
 mod filling;

@@ -1,8 +1,9 @@
-ghost use mathlib.Core.Bool.{Bool};
+ghost use mathlib.Core.Bool.{Bool, true};
 ghost use mathlib.Core.Path.{_≡_};
 ghost use Rattle.terms.specs.Forms.{Rule, rule};
 ghost use Rattle.terms.specs.Tables.{nodesOf};
 ghost use Rattle.locality.specs.declared.filling.Filling.the-variants.{Bottom as bottom, Top as top};
+ghost use Rattle.locality.specs.Counts.{countsFit};
 ghost use Rattle.locality.specs.Laws.{TestLaws};
 ghost use Rattle.locality.specs.Tables.{listedIn, default-of, localRule};
 ghost use Rattle.locality.specs.Worlds.{Names, Default};
@@ -21,7 +22,9 @@ pub trait LocalityTest {
     law keeps: { (t : Self) → TestLaws (local t) (default t) };
 
     fn is_local(&self, terms: &Terms, axiom: Axiom, listed: &[bool]) -> bool
-        ensures { λ r. ⌜ r ≡ local (now (self .entry)) (rule (nodesOf (now (terms .entry))) «axiom») (listedIn (now (listed .entry))) ⌝ };
+        ensures value { λ r. ⌜ r ≡ local (now (self .entry)) (rule (nodesOf (now (terms .entry))) «axiom») (listedIn (now (listed .entry))) ⌝ }
+        // every axiom in a table has counts of at least 1, as the law of worlds asks
+        ensures counts { λ _. ⌜ countsFit (rule (nodesOf (now (terms .entry))) «axiom») ≡ true ⌝ };
 }
 
 // The test that sets names outside the list to nothing.

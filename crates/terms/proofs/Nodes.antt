@@ -15,8 +15,16 @@ from-node : (ts : List Term) (t : TermId) (x : Term) → getD ts (t .0) Nothing 
 from-node ts t x e zero h = absurd (omega arith)
 from-node ts t x e (suc n) h = rw (e, sub-one) refl
 
-pub node-within : (ts : List Term) (t : TermId) (x : Term) → t .0 < length ts → x ≡ getD ts (t .0) x → (n : ℕ) → 0 < n → form n ts t ≡ shape (form (n - 1) ts) x
-node-within ts t x h e = from-node ts t x (sym (getD-read ts (t .0) x h e Nothing))
+-- the node that stands at a place, and the tree there
+pub record Stands-at (ts : List Term) (t : TermId) (x : Term) : Type 0 where
+  pub value : x ≡ getD ts (t .0) Nothing
+  pub tree : (n : ℕ) → 0 < n → form n ts t ≡ shape (form (n - 1) ts) x
 
-pub node-past : (ts : List Term) (t : TermId) → length ts ≤ t .0 → (n : ℕ) → 0 < n → form n ts t ≡ shape (form (n - 1) ts) Nothing
-node-past ts t h = from-node ts t Nothing (getD-past ts (t .0) Nothing h)
+stands-at : (ts : List Term) (t : TermId) (x : Term) → x ≡ getD ts (t .0) Nothing → Stands-at ts t x
+stands-at ts t x e = record { value = e; tree = from-node ts t x (sym e) }
+
+pub node-within : (ts : List Term) (t : TermId) (x : Term) → t .0 < length ts → x ≡ getD ts (t .0) x → Stands-at ts t x
+node-within ts t x h e = stands-at ts t x (getD-read ts (t .0) x h e Nothing)
+
+pub node-past : (ts : List Term) (t : TermId) → length ts ≤ t .0 → Stands-at ts t Nothing
+node-past ts t h = stands-at ts t Nothing (sym (getD-past ts (t .0) Nothing h))

@@ -6,6 +6,12 @@ use Rattle.vocabulary.specs.declared.refusal.Layer.{Layer}
 use Rattle.vocabulary.specs.declared.refusal.Layer.the-variants.{File, Book, Item}
 use Rattle.vocabulary.specs.declared.refusal.Refusal.{Refusal}
 
+-- the layers are numbered from the outside in
+abbrev pub layerNumber : Layer → ℕ
+layerNumber File = 1
+layerNumber Book = 2
+layerNumber Item = 3
+
 -- at the file's layer, at the book's, and at an item's
 abbrev pub of-file : ℕ → ℕ → Refusal
 of-file n at = record { number = n; layer = File; place = at }

@@ -3,16 +3,10 @@ use mathlib.Core.List.{List, [], _++_}
 use Prim.Native.Nat.{ℕ}
 use lib.Chars.{codes}
 use Rattle.std.specs.Written.{decimal}
-use Rattle.vocabulary.specs.declared.refusal.Layer.{Layer}
-use Rattle.vocabulary.specs.declared.refusal.Layer.the-variants.{File, Book, Item}
 use Rattle.vocabulary.specs.declared.refusal.Refusal.{Refusal}
+use Rattle.vocabulary.specs.Refusals.{layerNumber}
 use Rattle.winavulor.specs.declared.calls.Outcome.{Outcome}
 use Rattle.winavulor.specs.declared.calls.Outcome.the-variants.{Done, Counted, Refused, LoadRefused, NotAllowed}
-
-abbrev pub layerNumber : Layer → ℕ
-layerNumber File = 1
-layerNumber Book = 2
-layerNumber Item = 3
 
 -- 'refused', then number, layer and place, then the rest
 abbrev pub refusalText : Refusal → List ℕ → List ℕ

@@ -7,8 +7,8 @@ ghost use Rattle.book.specs.Refusals.{bookRefusal, fileRefusal};
 ghost use Rattle.winavulor.specs.Answers.{answerText};
 ghost use Rattle.winavulor.specs.States.{isNotAllowed, Performs};
 ghost use Rattle.winavulor.specs.declared.calls.State.the-variants.{Draft as OfDraft, Frozen as OfFrozen};
-ghost use Rattle.winavulor.specs.declared.calls.Outcome.the-variants.{Done, Counted, Refused};
-use crate::told::layer_number;
+ghost use Rattle.winavulor.specs.declared.calls.Outcome.the-variants.{Done, Counted, Refused, LoadRefused};
+ghost use Rattle.records.specs.Stops.{stopOf, loadRefusal};
 use book::AxiomId;
 use book::Book;
 use book::BookFault;
@@ -43,7 +43,7 @@ pub enum State {
 }
 
 impl State {
-    pub fn book(&self) -> &Book {
+    pub(crate) fn book(&self) -> &Book {
         match self {
             State::Draft(draft) => draft.book(),
             State::Frozen(frozen) => frozen.book(),
@@ -78,7 +78,7 @@ pub impl fmt::Display for Outcome as OutcomeDisplay {
                     layer,
                     place,
                 } = refusal;
-                let layer = layer_number(layer);
+                let layer = layer.number();
                 write!(f, "refused {number} {layer} {place}")
             }
             Outcome::LoadRefused(refusal, taken) => {
@@ -87,7 +87,7 @@ pub impl fmt::Display for Outcome as OutcomeDisplay {
                     layer,
                     place,
                 } = refusal;
-                let layer = layer_number(layer);
+                let layer = layer.number();
                 write!(f, "refused {number} {layer} {place} {taken}")
             }
             Outcome::NotAllowed => f.write_str("not-allowed"),
@@ -123,7 +123,8 @@ fn changed(answer: Result<(), BookFault>) -> Outcome
 }
 
 fn taken(answer: Result<usize, LoadFault>) -> Outcome
-    ensures { λ r. ⌜ isNotAllowed r ≡ false ⌝ }
+    ensures allowed { λ r. ⌜ isNotAllowed r ≡ false ⌝ }
+    ensures tells { λ r. ⌜ r ≡ elim answer [ Ok n ↦ Counted n | Err f ↦ LoadRefused (loadRefusal (stopOf f)) (stopOf f .taken) ] ⌝ }
 {
     match answer {
         Ok(count) => Outcome::Counted(count),
@@ -159,7 +160,7 @@ fn on_frozen(frozen: Frozen, call: &Call) -> (State, Outcome)
 }
 
 // Performs a call, and answers the book after it and the outcome.
-pub fn perform(state: State, call: &Call) -> (State, Outcome)
+pub(crate) fn perform(state: State, call: &Call) -> (State, Outcome)
     ensures { λ r. ⌜ Performs state (now (call .entry)) (r .0) (r .1) ⌝ }
 {
     match state {

@@ -6,7 +6,7 @@ use std::fmt;
 pub const USAGE: &str = "usage:
   winavulor                show an example book, and every call on it
   winavulor check BOOK     load a book file, and tell what it holds or why it is refused
-  winavulor show BOOK      load a book file, and list its names and axioms
+  winavulor show BOOK      load a book file, and list its names, its axioms and which are local
   winavulor run SCRIPT     perform the calls of a script, and answer each
   winavulor help           print this text";
 
@@ -21,7 +21,7 @@ pub enum Command<'a> {
 
 impl<'a> Command<'a> {
     // The command of the words after the program's own name, if they are one.
-    pub fn of(words: &'a [String]) -> Option<Command<'a>> {
+    pub(crate) fn of(words: &'a [String]) -> Option<Command<'a>> {
         match words {
             [] => Some(Command::Example),
             [verb] => Command::alone(verb.as_str()),
@@ -60,7 +60,7 @@ fn is_known(verb: &str) -> bool {
 
 impl UsageFault {
     // What is wrong with words that are no command.
-    pub fn of(heap: Global, words: &[String]) -> Result<UsageFault, AllocError> {
+    pub(crate) fn of(heap: Global, words: &[String]) -> Result<UsageFault, AllocError> {
         let verb = match words {
             [verb, ..] => verb.as_str(),
             [] => "",

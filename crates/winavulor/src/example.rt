@@ -149,7 +149,7 @@ fn list(rt: &LibcRuntime, state: &State) -> Result<(), Failure> {
 }
 
 // Loads the example, shows it, makes every call on it, and shows what came of it.
-pub fn show(rt: &LibcRuntime) -> Result<(), Failure> {
+pub(crate) fn show(rt: &LibcRuntime) -> Result<(), Failure> {
     let draft = Draft::open(rt.alloc())?;
     println!(rt, "open a draft: ok")?;
     let opened = take(rt, State::Draft(draft), loading(rt.alloc())?)?;

@@ -27,7 +27,7 @@ fn byte_of(high: u8, low: u8) -> Option<u8> {
 }
 
 // The bytes that a word stands for; a dash stands for none.
-pub fn bytes_of(heap: Global, word: &str) -> Result<Vec<u8>, LineFault> {
+pub(crate) fn bytes_of(heap: Global, word: &str) -> Result<Vec<u8>, LineFault> {
     let mut bytes = Vec::new(heap);
     if word == "-" {
         return Ok(bytes);

@@ -151,7 +151,7 @@ impl<'a> Words<'a> {
 }
 
 // The call of a line, or None for a line that is skipped: a comment, or one without a word.
-pub fn call_of(heap: Global, line: &str) -> Result<Option<Call>, LineFault> {
+pub(crate) fn call_of(heap: Global, line: &str) -> Result<Option<Call>, LineFault> {
     if line.starts_with('#') {
         return Ok(None);
     }

@@ -43,7 +43,11 @@ fn perform_line(
 }
 
 // Performs the lines of a script, and adds an answer for each call.
-pub fn perform_lines(heap: Global, script: &str, answers: &mut String) -> Result<(), ScriptFault> {
+pub(crate) fn perform_lines(
+    heap: Global,
+    script: &str,
+    answers: &mut String,
+) -> Result<(), ScriptFault> {
     let Ok(draft) = Draft::open(heap) else {
         return Err(ScriptFault {
             line: 1,

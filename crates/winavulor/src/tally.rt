@@ -25,7 +25,7 @@ impl Tally {
         self.seeded = self.seeded.saturating_add(usize::from(name.seeded));
     }
 
-    pub fn of(book: &Book) -> Tally {
+    pub(crate) fn of(book: &Book) -> Tally {
         let axioms = book.axioms().len();
         let mut tally = Tally {
             concepts: 0,

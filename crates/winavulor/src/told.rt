@@ -1,19 +1,7 @@
 // Refusals in words.
-ghost use mathlib.Core.Path.{_≡_};
-ghost use Rattle.winavulor.specs.Answers.{layerNumber};
 use std::fmt;
 use vocabulary::Layer;
 use vocabulary::Refusal;
-
-pub fn layer_number(layer: Layer) -> u8
-    ensures { λ r. ⌜ r ≡ layerNumber layer ⌝ }
-{
-    match layer {
-        Layer::File => 1,
-        Layer::Book => 2,
-        Layer::Item => 3,
-    }
-}
 
 fn layer_word(layer: Layer) -> &'static str {
     match layer {
@@ -60,7 +48,7 @@ pub impl fmt::Display for Told as ToldDisplay {
             layer,
             place,
         } = self.0;
-        let digit = layer_number(layer);
+        let digit = layer.number();
         let word = layer_word(layer);
         let wrong = meaning(number);
         write!(

@@ -33,12 +33,6 @@ impl LoadFault {
     {
         self.taken
     }
-
-    pub fn fault(self) -> FileFault
-        ensures { λ r. ⌜ r ≡ stopOf self .fault ⌝ }
-    {
-        self.fault
-    }
 }
 
 // A step of loading; a fault of it is located at its record.

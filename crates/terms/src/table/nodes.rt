@@ -3,8 +3,9 @@ ghost use mathlib.Core.Bool.{true, false, cond};
 ghost use mathlib.Core.List.{[], _∷_, _++_};
 ghost use Prim.Native.Nat.{ℕ, _<_, _-_};
 ghost use lib.Dec.{ltb};
-ghost use lib.ListN.{length, take};
+ghost use lib.ListN.{length, take, getD};
 ghost use Rattle.std.specs.Vec.{made};
+ghost use Rattle.terms.specs.declared.term.Term.the-variants.{Nothing};
 ghost use Rattle.terms.specs.Forms.{form, shape};
 ghost use Rattle.terms.specs.Tables.{nodesOf, Pushed};
 use crate::table::Terms;
@@ -32,7 +33,8 @@ impl Terms {
 
     // The node at a place, and ⊥ where there is none.
     pub fn at(&self, id: TermId) -> Term
-        ensures { λ r. ⌜ ((n : ℕ) → 0 < n → form n (nodesOf (now (self .entry))) id ≡ shape (form (n - 1) (nodesOf (now (self .entry)))) r) ⌝ }
+        ensures value { λ r. ⌜ r ≡ getD (nodesOf (now (self .entry))) (id .0) Nothing ⌝ }
+        ensures tree { λ r. ⌜ ((n : ℕ) → 0 < n → form n (nodesOf (now (self .entry))) id ≡ shape (form (n - 1) (nodesOf (now (self .entry)))) r) ⌝ }
     {
         let at = id.0 as usize;
         if at < self.nodes.len() {
@@ -54,7 +56,7 @@ impl Terms {
         Some(TermId(at as u16))
     }
 
-    // Lets go every node from a place on.
+    // Keeps the first nodes, so many, and drops the others.
     pub fn truncate(&mut self, count: usize)
         ensures { λ _. ⌜ nodesOf (now (self .exit)) ≡ take count (nodesOf (now (self .entry))) ⌝ }
     {

@@ -1,8 +1,0 @@
-use mathlib.Core.Path.{refl, ap}
-use native.Mathlib.Omega.{arith}
-use borrow.Author.Needs.{needs}
-use Rattle.codec.proofs.Placed.{wrote-stop, wrote-then, wrote-as, wrote-none}
-use Rattle.codec.proofs.writer.put.Needs as need
-
-pub returns-then-at-out : need.returns-then-at-out
-returns-then-at-out c = wrote-none _ _ _ (c .if-at-out .taken)
