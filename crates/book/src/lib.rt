@@ -1,4 +1,6 @@
 // The rule book: its contents, and the calls that a draft and a frozen book allow.
+#![tactic(auto)]
+
 mod book;
 mod fault;
 

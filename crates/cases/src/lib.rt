@@ -1,4 +1,6 @@
 // Worked cases on one small book.
+#![tactic(auto)]
+
 mod worked;
 
 pub use worked::worked_cases;

@@ -1,4 +1,6 @@
 // Reads the bodies of axioms.
+#![tactic(auto)]
+
 mod items;
 mod nested;
 mod parsed;

@@ -1,4 +1,6 @@
 // Module extraction: which axioms of a frozen book are kept for its signature.
+#![tactic(auto)]
+
 mod extractor;
 mod marking;
 mod mentions;

@@ -1,4 +1,6 @@
 // Locality: which axioms hold wherever the names outside a list have a default.
+#![tactic(auto)]
+
 mod checks;
 mod facts;
 mod filling;

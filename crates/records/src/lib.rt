@@ -1,4 +1,6 @@
 // Files of records, and loading them into a draft.
+#![tactic(auto)]
+
 mod fault;
 mod loading;
 mod reader;

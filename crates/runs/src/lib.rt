@@ -1,4 +1,6 @@
 // Lists of calls on a book.
+#![tactic(auto)]
+
 mod call;
 mod cut;
 mod outcome;

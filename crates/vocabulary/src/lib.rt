@@ -1,4 +1,6 @@
 // The names of a rule book: kinds, labels, and the table that numbers them.
+#![tactic(auto)]
+
 mod fault;
 mod kind;
 mod label;

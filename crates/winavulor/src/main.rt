@@ -1,4 +1,6 @@
 // The command line: it shows an example, checks and shows book files, and performs scripts of calls.
+#![tactic(auto)]
+
 mod calls;
 mod command;
 mod example;

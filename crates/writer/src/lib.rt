@@ -1,4 +1,6 @@
 // Writes the bodies of axioms.
+#![tactic(auto)]
+
 ghost use Rattle.std.specs.Prelude.{◌≡◌, [], ◌∷◌};
 ghost use Rattle.terms.specs.Forms.{form, meaning, rule};
 ghost use Rattle.terms.specs.Tables.{nodes_of};

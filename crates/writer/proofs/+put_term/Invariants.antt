@@ -1,4 +1,4 @@
 use Rattle.writer.proofs.+put_term.Given as goal
 
-abbrev pub decreases-put-term : goal.decreases-put-term
-decreases-put-term l = l.levels
+abbrev pub decreases-put_term : goal.decreases-put_term
+decreases-put_term l = l.levels

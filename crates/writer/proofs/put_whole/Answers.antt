@@ -5,4 +5,4 @@ use Rattle.terms.specs.Forms.{meaning}
 
 pub returns : goal.returns
 unfolding meaning
-returns c = c.put-term.ensures
+returns c = c.put_term.ensures

@@ -2,4 +2,4 @@ use Rattle.terms.proofs.ReadBack.{read_back}
 use Rattle.writer.proofs.write_axiom.Goals as goal
 
 pub returns : goal.returns
-returns c = record { wrote = c.put-axiom.ensures; back = λ names h. read_back names _ h }
+returns c = record { wrote = c.put_axiom.ensures; back = λ names h. read_back names _ h }

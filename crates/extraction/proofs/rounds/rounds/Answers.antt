@@ -6,10 +6,10 @@ use Rattle.extraction.proofs.rounds.rounds.Given as given
 use Rattle.extraction.proofs.rounds.rounds.Goals as goal
 
 pub loop-marking-init : goal.loop-marking-init
-loop-marking-init g c = (refl, list_begins (contents c.args.book.now) _ c.seeded-names-tables.ensures, stage_begins _ _ _)
+loop-marking-init g c = (refl, list_begins (contents c.args.book.now) _ c.seeded_names-tables.ensures, stage_begins _ _ _)
 
-pub overflow-add-marking : goal.overflow-add-marking
-overflow-add-marking g c = let few = few_rounds c.args.book.now _ _ _ _ c.loop-marking.invariant.2 in search rules
+pub overflow_add-marking : goal.overflow_add-marking
+overflow_add-marking g c = let few = few_rounds c.args.book.now _ _ _ _ c.loop-marking.invariant.2 in search rules
 
 pub loop-marking-preserved : goal.loop-marking-preserved
 loop-marking-preserved g c =
@@ -20,8 +20,8 @@ loop-marking-smaller g c =
     let next = round_more _ _ _ _ _ _ _ c.loop-marking.invariant.0 c.round.ensures c.loop-marking.invariant.2 c.loop-marking-test.true in
     omega (arith, few_rounds c.args.book.now _ _ _ _ next.2)
 
-pub overflow-add-result : goal.overflow-add-result
-overflow-add-result g c = let few = few_rounds c.args.book.now _ _ _ _ c.loop-marking.invariant.2 in search rules
+pub overflow_add-result : goal.overflow_add-result
+overflow_add-result g c = let few = few_rounds c.args.book.now _ _ _ _ c.loop-marking.invariant.2 in search rules
 
 pub returns : goal.returns
 returns g c =

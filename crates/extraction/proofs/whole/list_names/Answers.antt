@@ -16,7 +16,7 @@ loop-number-preserved c = elim c.if-kept-number.branch [
   | then-kept-number w ↦
       rw w.listed-is
       (list_next _ _ _ _ _ _ (rule_room c.args.book.now _) (search rules)
-      (subst (λ r. Adds (in_rule r) c.loop-number.listed w.list-axiom.new.listed) (rule_at_number c.args.book.now _ w.terms.result.now c.loop-number.number _ c.axioms-filed-items.ensures w.terms.ensures c.loop-number-test.true) w.list-axiom.ensures)
+      (subst (λ r. Adds (in_rule r) c.loop-number.listed w.list_axiom.new.listed) (rule_at_number c.args.book.now _ w.terms.result.now c.loop-number.number _ c.axioms-filed-items.ensures w.terms.ensures c.loop-number-test.true) w.list_axiom.ensures)
       c.loop-number.invariant)
   | else-kept-number w ↦ rw w.listed-is (list_skip _ _ _ _ _ (search rules) c.loop-number.invariant)
 ]

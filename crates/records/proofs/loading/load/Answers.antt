@@ -6,6 +6,6 @@ pub returns : goal.returns
 unfolding loading
 returns c = search rules
 
-pub returns-then-not-is-blank : goal.returns-then-not-is-blank
+pub returns-then-not-is_blank : goal.returns-then-not-is_blank
 unfolding loading
-returns-then-not-is-blank c = search rules
+returns-then-not-is_blank c = search rules

@@ -4,7 +4,7 @@ use Rattle.records.specs.Outcomes.{Stepped}
 use Rattle.records.specs.Stops.{Stop, stop_of, told}
 use Rattle.records.proofs.Going.{begins, goes_on, goes_stop, goes_done, was_ok, was_err, near_fits}
 use Rattle.records.proofs.loading.load_records.Goals as goal
-use Rattle.records.proofs.loading.load_records.Goals.{In-ok-located}
+use Rattle.records.proofs.loading.load_records.Goals.{In_ok-located}
 
 pub located-requires : goal.located-requires
 located-requires c =
@@ -13,22 +13,22 @@ located-requires c =
     near_fits _ _ c.step.result c.step.ensures.near inside (omega (arith, ap length c.loop-reader.invariant.0))
 
 -- the record was taken
-went : (c : In-ok-located) → Stepped c.loop-reader.draft c.loop-reader.reader (Ok tt) c.step.new.draft c.step.new.reader
+went : (c : In_ok-located) → Stepped c.loop-reader.draft c.loop-reader.reader (Ok tt) c.step.new.draft c.step.new.reader
 went c =
     subst (λ r. Stepped c.loop-reader.draft c.loop-reader.reader r c.step.new.draft c.step.new.reader)
-    (was_ok c.loop-reader.reader.at c.loop-reader.taken c.step.result c.in-ok-located.ensures)
+    (was_ok c.loop-reader.reader.at c.loop-reader.taken c.step.result c.in_ok-located.ensures)
     c.step.ensures
 
-pub returns-in-err-located : goal.returns-in-err-located
-returns-in-err-located c =
-    let p = err_from_is_err_and c.from-residual.result c.from-residual.ensures.1 in
-    let e = was_err c.loop-reader.reader.at c.loop-reader.taken c.step.result c.in-err-located.ensures in
+pub returns-in_err-located : goal.returns-in_err-located
+returns-in_err-located c =
+    let p = err_from_is_err_and c.from_residual.result c.from_residual.ensures.1 in
+    let e = was_err c.loop-reader.reader.at c.loop-reader.taken c.step.result c.in_err-located.ensures in
     let s = subst (λ r. Stepped c.loop-reader.draft c.loop-reader.reader r c.step.new.draft c.step.new.reader) e.1 c.step.ensures in
     let whole = goes_stop c.loop-reader.invariant.0 c.loop-reader-test.true c.loop-reader.invariant.1 e.0 s in
     record { state = ap (λ t. t.state) whole; answer = ap told p.1 ∙ ap {B = Result ℕ Stop} (λ f. Err (stop_of f)) p.2 ∙ ap Err e.2 ∙ ap (λ t. t.answer) whole }
 
-pub overflow-add-taken : goal.overflow-add-taken
-overflow-add-taken c = let few = c.loop-reader.invariant.1.few in search rules
+pub overflow_add-taken : goal.overflow_add-taken
+overflow_add-taken c = let few = c.loop-reader.invariant.1.few in search rules
 
 pub returns : goal.returns
 returns c = goes_done c.loop-reader-test.false c.loop-reader.invariant.1

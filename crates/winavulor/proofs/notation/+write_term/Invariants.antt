@@ -1,5 +1,5 @@
 -- Each term inside is written with one level fewer.
 use Rattle.winavulor.proofs.notation.+write_term.Given as goal
 
-abbrev pub decreases-write-term : goal.decreases-write-term
-decreases-write-term g l = l.levels
+abbrev pub decreases-write_term : goal.decreases-write_term
+decreases-write_term g l = l.levels

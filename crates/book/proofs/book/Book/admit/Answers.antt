@@ -15,42 +15,42 @@ use Rattle.book.proofs.Keeping.{Whole, whole_at, filed, filings_add, read_is}
 use Rattle.book.proofs.Admitting.{cut_back, admission_bad, admission_stopped, admission_done, nothing_against}
 use Rattle.book.proofs.Held.{whole_of}
 use Rattle.book.proofs.book.Book.admit.Goals as goal
-use Rattle.book.proofs.book.Book.admit.Goals.{In-ok-parsed}
+use Rattle.book.proofs.book.Book.admit.Goals.{In_ok-parsed}
 
 -- the contents of the book at the entry, with another table of terms
 abbrev with_table : (b : Contents) → List Filed → List Term → Contents
 with_table b fs ts = record { names = b.names; axioms = map (filing ts) fs }
 
 -- the body was read
-accepts : (c : In-ok-parsed) → Accepts (nodes_of c.args.self.now.terms) (entities c.args.self.now.names) c.args.kind c.args.body.now c.in-ok-parsed.parsed (nodes_of c.read-axiom.new.terms)
+accepts : (c : In_ok-parsed) → Accepts (nodes_of c.args.self.now.terms) (entities c.args.self.now.names) c.args.kind c.args.body.now c.in_ok-parsed.parsed (nodes_of c.read_axiom.new.terms)
 accepts c =
-    subst (λ r. Parses (nodes_of c.args.self.now.terms) (entities c.args.self.now.names) c.args.kind c.args.body.now (Some r) (nodes_of c.read-axiom.new.terms))
-    c.in-ok-parsed.was
+    subst (λ r. Parses (nodes_of c.args.self.now.terms) (entities c.args.self.now.names) c.args.kind c.args.body.now (Some r) (nodes_of c.read_axiom.new.terms))
+    c.in_ok-parsed.was
     c.in-Some.ensures
 
-pub returns-in-err-parsed : goal.returns-in-err-parsed
-returns-in-err-parsed c =
-    let p = err_from_is_err_and c.from-residual.result c.from-residual.ensures.1 in
-    let r : Refuses (nodes_of c.args.self.now.terms) (entities c.args.self.now.names) c.args.kind c.args.body.now c.in-err-parsed.field-0.0 (nodes_of c.read-axiom.new.terms) =
-    subst (λ r. Parses (nodes_of c.args.self.now.terms) (entities c.args.self.now.names) c.args.kind c.args.body.now (Some r) (nodes_of c.read-axiom.new.terms)) c.in-err-parsed.was c.in-Some.ensures in
-    let turn = admission_bad (contents c.args.self.now) c.args.kind c.args.body.now c.in-err-parsed.field-0.0 r.reads in
+pub returns-in_err-parsed : goal.returns-in_err-parsed
+returns-in_err-parsed c =
+    let p = err_from_is_err_and c.from_residual.result c.from_residual.ensures.1 in
+    let r : Refuses (nodes_of c.args.self.now.terms) (entities c.args.self.now.names) c.args.kind c.args.body.now c.in_err-parsed.field-0.0 (nodes_of c.read_axiom.new.terms) =
+    subst (λ r. Parses (nodes_of c.args.self.now.terms) (entities c.args.self.now.names) c.args.kind c.args.body.now (Some r) (nodes_of c.read_axiom.new.terms)) c.in_err-parsed.was c.in-Some.ensures in
+    let turn = admission_bad (contents c.args.self.now) c.args.kind c.args.body.now c.in_err-parsed.field-0.0 r.reads in
     record {
       state = ap (with_table (contents c.args.self.now) (vec_items c.args.self.now.axioms)) r.same ∙ sym (ap (λ t. t.state) turn);
       answer = p.1 ∙ ap Err p.2 ∙ sym (ap (λ t. t.answer) turn);
     }
 
-number : (c : In-ok-parsed) (n : ℕ) → n ≡ length (vec_items c.args.self.now.axioms) → n ≡ length (contents c.args.self.now).axioms
+number : (c : In_ok-parsed) (n : ℕ) → n ≡ length (vec_items c.args.self.now.axioms) → n ≡ length (contents c.args.self.now).axioms
 number c n e = e ∙ sym (length-map (vec_items c.args.self.now.axioms) (filing (nodes_of c.args.self.now.terms)))
 
-pub invariant-of-self-in-Some-obstacle : goal.invariant-of-self-in-Some-obstacle
-invariant-of-self-in-Some-obstacle c =
-    let a = accepts (goal.at.invariant-of-self-in-Some-obstacle c).In-ok-parsed in
+pub invariant_of-self-in-Some-obstacle : goal.invariant_of-self-in-Some-obstacle
+invariant_of-self-in-Some-obstacle c =
+    let a = accepts (goal.at.invariant_of-self-in-Some-obstacle c).In_ok-parsed in
     let w = whole_at (cut_back _ a.begins c.count-before.ensures c.truncate.ensures) (whole_of c.args.self.now) in
     (search rules, (search rules, (w.tally, (w.limit, (w.sparse, (w.right, (w.firm, tt)))))))
 
 pub returns-in-Some-obstacle : goal.returns-in-Some-obstacle
 returns-in-Some-obstacle c =
-    let m = (goal.at.returns-in-Some-obstacle c).In-ok-parsed in
+    let m = (goal.at.returns-in-Some-obstacle c).In_ok-parsed in
     let a = accepts m in
     let count : c.len-number.result ≡ length (vec_items c.args.self.now.axioms) = search rules in
     let turn = admission_stopped (contents c.args.self.now) c.args.kind c.args.body.now _ _ _ _ (read_is a) (number m _ count) c.args.self.now.tally c.in-Some-obstacle.fault c.in-Some-obstacle.ensures in
@@ -59,21 +59,21 @@ returns-in-Some-obstacle c =
       answer = sym (ap (λ t. t.answer) turn);
     }
 
-pub invariant-of-self-2 : goal.invariant-of-self-2
-invariant-of-self-2 c =
-    let a = accepts (goal.at.invariant-of-self-2 c).In-ok-parsed in
-    let free = nothing_against _ _ _ _ c.in-default-obstacle.ensures in
+pub invariant_of-self-2 : goal.invariant_of-self-2
+invariant_of-self-2 c =
+    let a = accepts (goal.at.invariant_of-self-2 c).In_ok-parsed in
+    let free = nothing_against _ _ _ _ c.in_default-obstacle.ensures in
     let grown = filed a (whole_of c.args.self.now) free.0 c.requires free.2 in
-    let w = subst (λ fs. Whole (entities c.args.self.now.names) (nodes_of c.read-axiom.new.terms) fs (c.args.self.now.bytes + length c.args.body.now)) (sym c.push-reserved.ensures.items) grown in
+    let w = subst (λ fs. Whole (entities c.args.self.now.names) (nodes_of c.read_axiom.new.terms) fs (c.args.self.now.bytes + length c.args.body.now)) (sym c.push_reserved.ensures.items) grown in
     (search rules, (search rules, (w.tally, (w.limit, (w.sparse, (w.right, (w.firm, tt)))))))
 
 pub returns : goal.returns
 returns c =
-    let m = (goal.at.returns c).In-ok-parsed in
+    let m = (goal.at.returns c).In_ok-parsed in
     let a = accepts m in
     let count : c.len-number.result ≡ length (vec_items c.args.self.now.axioms) = search rules in
-    let turn = admission_done (contents c.args.self.now) c.args.kind c.args.body.now _ _ _ _ (read_is a) (number m _ count) c.args.self.now.tally c.in-default-obstacle.ensures in
-    let same = ap (λ fs. map (filing (nodes_of c.read-axiom.new.terms)) fs) c.push-reserved.ensures.items ∙ filings_add a (whole_of c.args.self.now) in
+    let turn = admission_done (contents c.args.self.now) c.args.kind c.args.body.now _ _ _ _ (read_is a) (number m _ count) c.args.self.now.tally c.in_default-obstacle.ensures in
+    let same = ap (λ fs. map (filing (nodes_of c.read_axiom.new.terms)) fs) c.push_reserved.ensures.items ∙ filings_add a (whole_of c.args.self.now) in
     record {
       state = ap (λ fs. record { names = entities c.args.self.now.names; axioms = fs }) same ∙ sym (ap (λ t. t.state) turn);
       answer = ap {B = Result AxiomId BookFault} (λ n. Ok (record { 0 = n })) (number m _ count) ∙ sym (ap (λ t. t.answer) turn);

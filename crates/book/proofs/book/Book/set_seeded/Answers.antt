@@ -4,10 +4,10 @@ use Rattle.book.proofs.Keeping.{whole_reseed}
 use Rattle.book.proofs.Held.{whole_of}
 use Rattle.book.proofs.book.Book.set_seeded.Goals as goal
 
-pub invariant-of-self : goal.invariant-of-self
-invariant-of-self c =
-    let w = whole_reseed c.args.id.0 c.args.on c.set-seeded.ensures.after (whole_of c.args.self.now) in
+pub invariant_of-self : goal.invariant_of-self
+invariant_of-self c =
+    let w = whole_reseed c.args.id.0 c.args.on c.set_seeded.ensures.after (whole_of c.args.self.now) in
     (search rules, (search rules, (w.tally, (w.limit, (w.sparse, (w.right, (w.firm, tt)))))))
 
-pub returns-else-set-seeded : goal.returns-else-set-seeded
-returns-else-set-seeded c = search (rules, reseed_past)
+pub returns-else-set_seeded : goal.returns-else-set_seeded
+returns-else-set_seeded c = search (rules, reseed_past)

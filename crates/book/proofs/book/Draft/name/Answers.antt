@@ -3,7 +3,7 @@ use Rattle.book.proofs.Keeping.{whole_naming}
 use Rattle.book.proofs.Held.{whole_of}
 use Rattle.book.proofs.book.Draft.name.Goals as goal
 
-pub invariant-of-self : goal.invariant-of-self
-invariant-of-self c =
+pub invariant_of-self : goal.invariant_of-self
+invariant_of-self c =
     let w = whole_naming c.args.kind c.args.label.now c.name.ensures.state (whole_of c.args.self.now.book) in
     (search rules, (search rules, (w.tally, (w.limit, (w.sparse, (w.right, (w.firm, tt)))))))

@@ -5,7 +5,7 @@ use Rattle.book.specs.declared.book.Filed.{Filed}
 use Rattle.book.proofs.Keeping.{Whole, whole_empty}
 use Rattle.book.proofs.book.Draft.open.Goals as goal
 
-pub invariant-of-result : goal.invariant-of-result
-invariant-of-result c =
-    let w = whole_empty c.in-ok-names.ensures c.in-ok-terms.ensures c.in-ok-axioms.ensures.items in
+pub invariant_of-result : goal.invariant_of-result
+invariant_of-result c =
+    let w = whole_empty c.in_ok-names.ensures c.in_ok-terms.ensures c.in_ok-axioms.ensures.items in
     (search rules, (search rules, (w.tally, (w.limit, (w.sparse, (w.right, (w.firm, tt)))))))

@@ -5,8 +5,8 @@ use Rattle.extraction.proofs.whole.WholeExtractor.extract.Goals as goal
 pub returns : goal.returns
 returns c = record {
   holds = record {
-    axioms = c.axioms-in-force-tables.ensures;
-    names = list_closed _ _ _ _ _ c.seeded-names-tables.ensures c.axioms-in-force-tables.ensures c.list-names.ensures;
+    axioms = c.axioms_in_force-tables.ensures;
+    names = list_closed _ _ _ _ _ c.seeded_names-tables.ensures c.axioms_in_force-tables.ensures c.list_names.ensures;
   };
   counts = refl;
 }

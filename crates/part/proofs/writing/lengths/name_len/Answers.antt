@@ -8,6 +8,6 @@ use Rattle.part.proofs.writing.lengths.name_len.Goals as goal
 pub returns-in-Some : goal.returns-in-Some
 returns-in-Some c =
     let name = c.in-Some.name.now in
-    let short = label_short name.label c.as-bytes.result.now c.as-bytes.ensures in
-    let parts = name_parts (entity name) (entity_at (entities c.args.names.now) c.args.id.0) (code_of name.kind) c.as-bytes.result.now c.in-Some.ensures refl c.as-bytes.ensures in
+    let short = label_short name.label c.as_bytes.result.now c.as_bytes.ensures in
+    let parts = name_parts (entity name) (entity_at (entities c.args.names.now) c.args.id.0) (code_of name.kind) c.as_bytes.result.now c.in-Some.ensures refl c.as_bytes.ensures in
     record { value = omega (arith, ap length parts); bound = omega arith }

@@ -6,7 +6,7 @@ use Rattle.part.proofs.writing.lengths.names_len.Goals as goal
 
 pub loop-number-preserved : goal.loop-number-preserved
 loop-number-preserved c =
-    measured_more (name_at (entities c.args.names.now)) c.loop-number.number c.loop-number.len c.loop-number.invariant c.name-len-len.result c.name-len-len.ensures.value (search rules)
+    measured_more (name_at (entities c.args.names.now)) c.loop-number.number c.loop-number.len c.loop-number.invariant c.name_len-len.result c.name_len-len.ensures.value (search rules)
 
 pub returns : goal.returns
 returns c =

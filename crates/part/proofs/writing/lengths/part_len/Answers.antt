@@ -9,4 +9,4 @@ pub returns : goal.returns
 returns c =
     let b = contents c.args.book.now in
     let kept = flagged c.args.kept.now in
-    omega (arith, c.names-len.ensures.value, c.seeds-len.ensures.value, c.axioms-len.ensures.value, ap (λ v. length (file_bytes (map name_entry (entities v)))) c.names-names.ensures, ap (λ v. length (file_bytes (map seed_entry (seeds_from 0 (entities v))))) c.names-names.ensures, length-append (part_names b) (part_seeds b ++ part_axioms b kept), length-append (part_seeds b) (part_axioms b kept))
+    omega (arith, c.names_len.ensures.value, c.seeds_len.ensures.value, c.axioms_len.ensures.value, ap (λ v. length (file_bytes (map name_entry (entities v)))) c.names-names.ensures, ap (λ v. length (file_bytes (map seed_entry (seeds_from 0 (entities v))))) c.names-names.ensures, length-append (part_names b) (part_seeds b ++ part_axioms b kept), length-append (part_seeds b) (part_axioms b kept))

@@ -9,28 +9,28 @@ use Rattle.part.specs.Writing.{flagged}
 use Rattle.part.proofs.Numbered.{axiom_at, axiom_on, axiom_off, axioms_all, body_short, up_to_more, up_to_same, up_to_stop, up_to_all}
 use Rattle.part.proofs.Writes.{wrote_nothing}
 use Rattle.part.proofs.writing.sections.write_axioms.Goals as goal
-use Rattle.part.proofs.writing.sections.write_axioms.Goals.{then-is-kept+in-ok-next, else-is-kept}
+use Rattle.part.proofs.writing.sections.write_axioms.Goals.{then-is_kept+in_ok-next, else-is_kept}
 
 pub loop-number-init : goal.loop-number-init
 loop-number-init c = wrote_nothing _ _ c.requires
 
-pub write-rule-requires : goal.write-rule-requires
-write-rule-requires c =
+pub write_rule-requires : goal.write_rule-requires
+write_rule-requires c =
     let b = c.args.book.now in
     subst (λ r. length (body_bytes r) ≤ 512)
     (sym (rule_at_number b c.axioms-filed-items.result.now c.terms.result.now c.loop-number.number _ c.axioms-filed-items.ensures c.terms.ensures c.loop-number-test.true))
     (body_short (contents b).names (contents b).axioms c.loop-number.number b.right)
 
-pub returns-in-err-next : goal.returns-in-err-next
-returns-in-err-next c =
+pub returns-in_err-next : goal.returns-in_err-next
+returns-in_err-next c =
     let b = c.args.book.now in
     let kept = flagged c.args.kept.now in
     let inside : c.loop-number.number < axiom_count (contents b) =
     omega (arith, axioms_number b, ap length c.axioms-filed-items.ensures, c.loop-number-test.true) in
-    rw c.from-residual.ensures
-    (up_to_stop (axiom_at (contents b) kept) c.loop-number.number c.loop-number.invariant _ (part_axioms (contents b) kept) (axiom_count (contents b)) {after = c.write-rule.new.out} inside
-    (axiom_on (contents b) kept c.loop-number.number true c.if-is-kept.ensures _ refl (rule_at_number b c.axioms-filed-items.result.now c.terms.result.now c.loop-number.number _ c.axioms-filed-items.ensures c.terms.ensures c.loop-number-test.true))
-    (axioms_all (contents b) kept) c.in-err-next.ensures)
+    rw c.from_residual.ensures
+    (up_to_stop (axiom_at (contents b) kept) c.loop-number.number c.loop-number.invariant _ (part_axioms (contents b) kept) (axiom_count (contents b)) {after = c.write_rule.new.out} inside
+    (axiom_on (contents b) kept c.loop-number.number true c.if-is_kept.ensures _ refl (rule_at_number b c.axioms-filed-items.result.now c.terms.result.now c.loop-number.number _ c.axioms-filed-items.ensures c.terms.ensures c.loop-number-test.true))
+    (axioms_all (contents b) kept) c.in_err-next.ensures)
 
 pub loop-number-preserved : goal.loop-number-preserved
 loop-number-preserved c =
@@ -38,13 +38,13 @@ loop-number-preserved c =
     let number = c.loop-number.number in
     let kept = flagged c.args.kept.now in
     let f = axiom_at (contents b) kept in
-    elim c.if-is-kept.branch [
-      | then-is-kept+in-ok-next w ↦
+    elim c.if-is_kept.branch [
+      | then-is_kept+in_ok-next w ↦
           rw (w.next-is, w.out-is)
-          (up_to_more f number c.loop-number.invariant _ (axiom_on (contents b) kept number c.is-kept.result c.is-kept.ensures _ w.if-is-kept.true (rule_at_number b c.axioms-filed-items.result.now w.terms.result.now number _ c.axioms-filed-items.ensures w.terms.ensures c.loop-number-test.true)) w.in-ok-next.ensures)
-      | else-is-kept w ↦
+          (up_to_more f number c.loop-number.invariant _ (axiom_on (contents b) kept number c.is_kept.result c.is_kept.ensures _ w.if-is_kept.true (rule_at_number b c.axioms-filed-items.result.now w.terms.result.now number _ c.axioms-filed-items.ensures w.terms.ensures c.loop-number-test.true)) w.in_ok-next.ensures)
+      | else-is_kept w ↦
           rw (w.next-is, w.out-is)
-          (up_to_same f number c.loop-number.invariant (axiom_off (contents b) kept number c.is-kept.result c.is-kept.ensures w.if-is-kept.false))
+          (up_to_same f number c.loop-number.invariant (axiom_off (contents b) kept number c.is_kept.result c.is_kept.ensures w.if-is_kept.false))
     ]
 
 pub returns : goal.returns

@@ -6,23 +6,23 @@ use Rattle.part.specs.Parts.{file_bytes, name_entry, seed_entry, seeds_from, par
 use Rattle.part.specs.Writing.{flagged}
 use Rattle.part.proofs.writing.sections.write_part.Goals as goal
 
-pub returns-in-err-seeds : goal.returns-in-err-seeds
-returns-in-err-seeds c =
+pub returns-in_err-seeds : goal.returns-in_err-seeds
+returns-in_err-seeds c =
     let b = contents c.args.book.now in
-    rw c.from-residual.ensures
+    rw c.from_residual.ensures
     (wrote_stop (part_seeds b ++ part_axioms b (flagged c.args.kept.now))
-    (wrote_as (ap (λ v. file_bytes (map name_entry (entities v))) (sym c.names-names.ensures)) c.in-err-seeds.ensures))
+    (wrote_as (ap (λ v. file_bytes (map name_entry (entities v))) (sym c.names-names.ensures)) c.in_err-seeds.ensures))
 
-pub returns-in-err-axioms : goal.returns-in-err-axioms
-returns-in-err-axioms c =
-    rw c.from-residual-in-err-axioms.ensures
-    (wrote_then (wrote_as (ap (λ v. file_bytes (map name_entry (entities v))) (sym c.names-names.ensures)) c.in-ok-seeds.ensures)
+pub returns-in_err-axioms : goal.returns-in_err-axioms
+returns-in_err-axioms c =
+    rw c.from_residual-in_err-axioms.ensures
+    (wrote_then (wrote_as (ap (λ v. file_bytes (map name_entry (entities v))) (sym c.names-names.ensures)) c.in_ok-seeds.ensures)
     (wrote_stop (part_axioms (contents c.args.book.now) (flagged c.args.kept.now))
-    (wrote_as (ap (λ v. file_bytes (map seed_entry (seeds_from 0 (entities v)))) (sym c.names-names.ensures)) c.in-err-axioms.ensures)))
+    (wrote_as (ap (λ v. file_bytes (map seed_entry (seeds_from 0 (entities v)))) (sym c.names-names.ensures)) c.in_err-axioms.ensures)))
 
 pub returns : goal.returns
 returns c =
-    wrote_then (wrote_as (ap (λ v. file_bytes (map name_entry (entities v))) (sym c.names-names.ensures)) c.in-ok-seeds.ensures)
+    wrote_then (wrote_as (ap (λ v. file_bytes (map name_entry (entities v))) (sym c.names-names.ensures)) c.in_ok-seeds.ensures)
     (wrote_then
-    (wrote_as (ap (λ v. file_bytes (map seed_entry (seeds_from 0 (entities v)))) (sym c.names-names.ensures)) c.in-ok-axioms.ensures)
-    c.write-axioms.ensures)
+    (wrote_as (ap (λ v. file_bytes (map seed_entry (seeds_from 0 (entities v)))) (sym c.names-names.ensures)) c.in_ok-axioms.ensures)
+    c.write_axioms.ensures)
