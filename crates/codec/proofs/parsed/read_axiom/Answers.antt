@@ -10,6 +10,6 @@ returns-in-Err c =
 
 pub returns-in-Ok : goal.returns-in-Ok
 returns-in-Ok c =
-    let typed : (i : ℕ) → get_or c.args.body.now i 0 < 256 = λ i. omega (arith, c.type-inv.body i) in
+    let typed : (i : ℕ) → get_or c.args.body.now i 0 < 256 = λ i. omega (arith, c.type_inv.body i) in
     let room : length (nodes_of c.args.terms.now) + length c.args.body.now ≤ 33280 = omega (arith, c.count-before.ensures) in
     accepts refl room typed c.in-Ok.ensures

@@ -3,14 +3,14 @@ use Rattle.std.proofs.lemmas.Result.{err_from_is_err_and}
 use Rattle.codec.proofs.Chains.{and_err, and_ok, term_bad_code, term_err, term_ok}
 use Rattle.codec.proofs.reader.BodyReader.+after_code_term.Goals as goal
 
-pub after_code-returns-in_err-second : goal.after_code-returns-in_err-second
-after_code-returns-in_err-second t c =
-    let p = err_from_is_err_and c.from_residual-in_err-second.result c.from_residual-in_err-second.ensures.1 in
-    rw (p.1, p.2) (and_err c.args.allowed _ c.in-And.is c.in_ok-first.ensures c.in_err-second.ensures)
+pub after_code-returns-in_err-second-in-And : goal.after_code-returns-in_err-second-in-And
+after_code-returns-in_err-second-in-And t c =
+    let p = err_from_is_err_and c.from_residual-in_err-second-in-And.result c.from_residual-in_err-second-in-And.ensures.1 in
+    rw (p.1, p.2) (and_err c.args.allowed _ c.in-And.is c.in_ok-first-in-And.ensures c.in_err-second-in-And.ensures)
 
-pub after_code-returns-in_ok-second : goal.after_code-returns-in_ok-second
-after_code-returns-in_ok-second t c =
-    and_ok c.args.allowed _ c.in-And.is c.in_ok-first.ensures c.in_ok-second.ensures
+pub after_code-returns-in_ok-second-in-And : goal.after_code-returns-in_ok-second-in-And
+after_code-returns-in_ok-second-in-And t c =
+    and_ok c.args.allowed _ c.in-And.is c.in_ok-first-in-And.ensures c.in_ok-second-in-And.ensures
 
 pub term-returns-in_err-code : goal.term-returns-in_err-code
 term-returns-in_err-code t c =
