@@ -46,7 +46,7 @@ pub invariant_of-self-in-Some-obstacle : goal.invariant_of-self-in-Some-obstacle
 invariant_of-self-in-Some-obstacle c =
     let a = accepts (goal.at.invariant_of-self-in-Some-obstacle c).In_ok-parsed in
     let w = whole_at (cut_back _ a.begins c.count-before.ensures c.truncate.ensures) (whole_of c.args.self.now) in
-    (search rules, (search rules, (w.tally, (w.limit, (w.sparse, (w.right, (w.firm, tt)))))))
+    record { room = search rules; few = search rules; tally = w.tally; limit = w.limit; sparse = w.sparse; right = w.right; firm = w.firm }
 
 pub returns-in-Some-obstacle : goal.returns-in-Some-obstacle
 returns-in-Some-obstacle c =
@@ -65,7 +65,7 @@ invariant_of-self-2 c =
     let free = nothing_against _ _ _ _ c.in_default-obstacle.ensures in
     let grown = filed a (whole_of c.args.self.now) free.0 c.requires free.2 in
     let w = subst (λ fs. Whole (entities c.args.self.now.names) (nodes_of c.read_axiom.new.terms) fs (c.args.self.now.bytes + length c.args.body.now)) (sym c.push_reserved.ensures.items) grown in
-    (search rules, (search rules, (w.tally, (w.limit, (w.sparse, (w.right, (w.firm, tt)))))))
+    record { room = search rules; few = search rules; tally = w.tally; limit = w.limit; sparse = w.sparse; right = w.right; firm = w.firm }
 
 pub returns : goal.returns
 returns c =

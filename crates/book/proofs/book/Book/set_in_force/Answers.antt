@@ -25,7 +25,7 @@ whole c = reforced c.args.id.0 c.index_mut.result.now (changed c) c.args.on (wit
 pub invariant_of-self : goal.invariant_of-self
 invariant_of-self c =
     let w = whole (goal.at.invariant_of-self c).After-index_mut in
-    (search rules, (search rules, (w.tally, (w.limit, (w.sparse, (w.right, (w.firm, tt)))))))
+    record { room = search rules; few = search rules; tally = w.tally; limit = w.limit; sparse = w.sparse; right = w.right; firm = w.firm }
 
 pub returns : goal.returns
 returns c =

@@ -7,7 +7,7 @@ use Rattle.book.proofs.book.Book.set_seeded.Goals as goal
 pub invariant_of-self : goal.invariant_of-self
 invariant_of-self c =
     let w = whole_reseed c.args.id.0 c.args.on c.set_seeded.ensures.after (whole_of c.args.self.now) in
-    (search rules, (search rules, (w.tally, (w.limit, (w.sparse, (w.right, (w.firm, tt)))))))
+    record { room = search rules; few = search rules; tally = w.tally; limit = w.limit; sparse = w.sparse; right = w.right; firm = w.firm }
 
 pub returns-else-set_seeded : goal.returns-else-set_seeded
 returns-else-set_seeded c = search (rules, reseed_past)
