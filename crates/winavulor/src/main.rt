@@ -19,7 +19,8 @@ use failure::Failure;
 use notation::Listing;
 use records::load;
 use script::perform_lines;
-use std::{env, fs};
+use std::process::ExitCode;
+use std::{env, fs, io};
 use tally::Tally;
 use verdicts::{Verdicts, signature};
 
@@ -87,10 +88,12 @@ fn answer(rt: &HostRuntime) -> Result<(), Failure> {
     }
 }
 
-fn main(rt: HostRuntime) -> Result<(), Failure> {
-    let end = answer(&rt);
-    if let Err(failure) = &end {
-        eprintln!(rt; "winavulor: {failure}")?;
+fn main(rt: HostRuntime) -> io::Result<ExitCode> {
+    match answer(&rt) {
+        Ok(()) => Ok(ExitCode::SUCCESS),
+        Err(failure) => {
+            eprintln!(rt; "winavulor: {failure}")?;
+            Ok(ExitCode::FAILURE)
+        }
     }
-    end
 }
