@@ -1,7 +1,7 @@
 -- What every book keeps, over the parts that it is made of, and how each call keeps it.
 use Rattle.std.proofs.Common.{◌≡◌, ℕ, zero, suc, ◌+◌, ◌-◌, ◌<◌, ◌≤◌, Bool, true, false, cond, ◌&&◌, ltb, leb, List, [], ◌∷◌, ◌++◌, map, length, get_or, take, set, Some, None, Ok, Err, Option, Result, sym, refl, ap, ◌∙◌, subst, append_assoc, append-nil, arith}
 use mathlib.Core.Logic.{∥∥₁_elim}
-use Rattle.std.specs.List.{AllByRecursion as All}
+use Rattle.std.specs.List.{AllByRecursion}
 use Rattle.std.proofs.ByRecursion.{All-get_or, All-set, All-push}
 use Rattle.std.proofs.lemmas.List.{map_push, take_all}
 use Rattle.std.proofs.lemmas.List.Sums.{sum_by_push, sum_by-cons}
@@ -35,7 +35,7 @@ pub record Whole (names : List Entity) (ts : List Term) (axioms : List Filed) (b
   pub limit : bytes ≤ 32768
   pub sparse : length ts ≤ bytes
   pub right : every (sound names) (map (filing ts) axioms) ≡ true
-  pub firm : ∥ All (Firm ts) axioms ∥₁
+  pub firm : ∥ AllByRecursion (Firm ts) axioms ∥₁
 
 -- ---- names change, the axioms stay
 
@@ -63,7 +63,7 @@ right_reseed names n on = every_kept (sound names) (sound (reseed names n on)) (
 firm_on : (ts more : List Term) (f : Filed) → Firm ts f → Firm (ts ++ more) f
 firm_on ts more f h later = ap (λ l. rule l f.«axiom») (append_assoc ts more later) ∙ h (more ++ later) ∙ sym (h more)
 
-all_on : (ts more : List Term) (fs : List Filed) → All (Firm ts) fs → All (Firm (ts ++ more)) fs
+all_on : (ts more : List Term) (fs : List Filed) → AllByRecursion (Firm ts) fs → AllByRecursion (Firm (ts ++ more)) fs
 all_on ts more [] a = tt
 all_on ts more (f ∷ fs) a = (firm_on ts more f a.0, all_on ts more fs a.1)
 
@@ -74,7 +74,7 @@ tails : {A B : Type 0} → ∥ A × B ∥₁ → ∥ B ∥₁
 tails t = ∥∥₁_elim t squash₁ (λ p. ∣ p.1 ∣₁)
 
 -- what the axioms state is the same in a longer table
-pub filings_on : (ts more : List Term) (fs : List Filed) → ∥ All (Firm ts) fs ∥₁ → map (filing (ts ++ more)) fs ≡ map (filing ts) fs
+pub filings_on : (ts more : List Term) (fs : List Filed) → ∥ AllByRecursion (Firm ts) fs ∥₁ → map (filing (ts ++ more)) fs ≡ map (filing ts) fs
 filings_on ts more [] t = refl
 filings_on ts more (f ∷ fs) t =
     let same : rule (ts ++ more) f.«axiom» ≡ rule ts f.«axiom» = ∥∥₁_elim (heads t) (rules_set _ _) (λ h. h more) in
@@ -145,7 +145,7 @@ module _ {names : List Entity} {old new : List Term} {kind : AxiomKind} {body : 
         limit = fits;
         sparse = omega (arith, h.few, w.sparse);
         right = ap (every (sound names)) same ∙ every_push (sound names) (map (filing old) fs) last w.right (and_from _ _ h.fits (le-leb (body_length last) 512 (omega (arith, ap length is))));
-        firm = ∥∥₁_elim w.firm squash₁ (λ a. ∣ All-push (Firm new) fs _ (subst (λ t. All (Firm t) fs) (sym h.begins.grown) (all_on old h.begins.more fs a)) (stands h true) ∣₁);
+        firm = ∥∥₁_elim w.firm squash₁ (λ a. ∣ All-push (Firm new) fs _ (subst (λ t. AllByRecursion (Firm t) fs) (sym h.begins.grown) (all_on old h.begins.more fs a)) (stands h true) ∣₁);
       }
 
 -- nothing changed but for the name of the table
@@ -197,5 +197,5 @@ whole_empty {names} {ts} {fs} n t f = record {
   limit = omega arith;
   sparse = rw t (omega arith);
   right = rw f refl;
-  firm = ∣ subst (All (Firm ts)) (sym f) tt ∣₁;
+  firm = ∣ subst (AllByRecursion (Firm ts)) (sym f) tt ∣₁;
 }

@@ -1,5 +1,5 @@
 ghost use Rattle.std.specs.Prelude.{◌≡◌, ◌≤◌, true, map, length, vec_len, vec_capacity};
-ghost use Rattle.std.specs.List.{AllByRecursion as All};
+ghost use Rattle.std.specs.List.{AllByRecursion};
 ghost use Rattle.vocabulary.specs.Lists.{every};
 ghost use Rattle.vocabulary.specs.Naming.{entities};
 ghost use Rattle.terms.specs.Tables.{nodes_of};
@@ -37,7 +37,7 @@ pub struct Book {
     ghost limit: { bytes ≤ 32768 },
     ghost sparse: { length (nodes_of terms) ≤ bytes },
     ghost right: { every (sound (entities names)) (map (filing (nodes_of terms)) axioms.items) ≡ true },
-    ghost firm: { ∥ All (Firm (nodes_of terms)) axioms.items ∥₁ },
+    ghost firm: { ∥ AllByRecursion (Firm (nodes_of terms)) axioms.items ∥₁ },
 }
 
 // A draft: a book that may be changed.

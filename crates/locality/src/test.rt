@@ -6,7 +6,6 @@ ghost use Rattle.locality.specs.Counts.{counts_fit};
 ghost use Rattle.locality.specs.Laws.{TestLaws};
 ghost use Rattle.locality.specs.Tables.{listed_in, default_of, local_rule};
 ghost use Rattle.locality.specs.Worlds.{Names, Default};
-ghost use Rattle.locality.specs.declared.filling.Filling.TheVariants as Thevariants;
 ghost use Rattle.locality.specs.Keeps.{keeps_laws};
 
 use crate::checks;
@@ -37,7 +36,7 @@ impl LocalityTest for Bottom {
 
     ghost default = { λ t. default_of bottom };
 
-    ghost keeps = { λ t. keeps_laws Thevariants.Bottom };
+    ghost keeps = { λ t. keeps_laws bottom };
 
     fn is_local(&self, terms: &Terms, axiom: Axiom, listed: &[bool]) -> bool {
         checks::is_local(Filling::Bottom, terms, axiom, listed)
@@ -53,7 +52,7 @@ impl LocalityTest for Top {
 
     ghost default = { λ t. default_of top };
 
-    ghost keeps = { λ t. keeps_laws Thevariants.Top };
+    ghost keeps = { λ t. keeps_laws top };
 
     fn is_local(&self, terms: &Terms, axiom: Axiom, listed: &[bool]) -> bool {
         checks::is_local(Filling::Top, terms, axiom, listed)
