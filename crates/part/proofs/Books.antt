@@ -16,7 +16,7 @@ use Rattle.part.proofs.RoundTrips.{BooksProper}
 label_fits : (l : Label) → fitting (label_of l) ≡ true
 label_fits l =
     let short = l.short in
-    and_from _ _ (le-leb 1 (length (label_of l)) l.some) (le-leb (length (label_of l)) 32 (omega (arith, length-take l.len l.bytes)))
+    and_from _ _ (le-leb 1 (length (label_of l)) l.nonempty) (le-leb (length (label_of l)) 32 (omega (arith, length-take l.len l.bytes)))
 
 labels_fit : (ns : List Name) → every well_labelled (map entity ns) ≡ true
 labels_fit [] = refl

@@ -1,8 +1,8 @@
 // Writing the part of a frozen book.
 mod bytes;
 mod call;
+mod entries;
 mod lengths;
-mod records;
 mod sections;
 
 pub use call::write;

@@ -1,4 +1,4 @@
-ghost use Rattle.std.specs.Prelude.{◌≡◌, ◌≤◌, true, take};
+ghost use Rattle.std.specs.Prelude.{◌≡◌, ◌≤◌, true, length, take};
 ghost use Rattle.vocabulary.specs.Labels.{graphics};
 
 mod bytes;
@@ -9,6 +9,7 @@ pub struct Label {
     bytes: [u8; 32],
     len: usize,
     ghost some: { 1 ≤ len },
+    ghost nonempty: { 1 ≤ length (take len bytes) },
     ghost short: { len ≤ 32 },
     ghost clean: { graphics (take len bytes) ≡ true },
 }

@@ -7,7 +7,7 @@ ghost use Rattle.book.specs.Calls.{contents};
 ghost use Rattle.part.specs.Parts.{file_bytes, name_entry, seed_entry, seeds_from, part_axioms, part_bytes};
 ghost use Rattle.part.specs.Writing.{flagged, found_record};
 
-use crate::writing::records::{body_len, is_kept, is_seeded};
+use crate::writing::entries::{body_len, is_kept, is_seeded};
 use book::Book;
 use vocabulary::{NameId, Vocabulary};
 

@@ -7,7 +7,7 @@ ghost use Rattle.writer.specs.Placing.{Wrote};
 ghost use Rattle.part.specs.Parts.{file_bytes, name_entry, seed_entry, seeds_from, part_axioms, part_bytes};
 ghost use Rattle.part.specs.Writing.{flagged};
 
-use crate::writing::records::{is_kept, is_seeded, write_name, write_rule, write_seed};
+use crate::writing::entries::{is_kept, is_seeded, write_name, write_rule, write_seed};
 use book::Book;
 use vocabulary::{NameId, Vocabulary};
 

@@ -49,7 +49,7 @@ returns g c =
           (axioms_counted c.book-book.result.now k c.book-book.ensures _ c.axioms-axiom_count.ensures)
           (names_counted c.book-book.result.now k c.book-book.ensures _ _ c.names.ensures c.count-name_count.ensures.value)
           (part_length c.book-book.result.now k c.book-book.ensures kept (replicate 1024 0) c.mark.new.axioms (book_proper k).few_axioms done.axioms_are _ c.part_len-len.ensures)
-          done.seeded c.if-axioms-axiom_count.false c.if-names-name_count.false c.if-part_len.false _ _ _ c.write_part.result _
+          done.seeded c.if-axioms-axiom_count.false c.if-names-name_count.false c.if-part-len.false _ _ _ c.write_part.result _
           (copied_flags _ _ kept (replicate 1024 0) c.mark.new.axioms c.args.axioms.now _ (axioms_counted c.book-book.result.now k c.book-book.ensures _ c.axioms-axiom_count.ensures) (book_proper k).few_axioms c.if-axioms-axiom_count.false done.axioms_are c.copy_flags.ensures)
           (copied_flags _ _ _ (replicate 1024 0) c.mark.new.names c.args.names.now _ (names_counted c.book-book.result.now k c.book-book.ensures _ _ c.names.ensures c.count-name_count.ensures.value) (book_proper k).few_names c.if-names-name_count.false done.names_are c.copy_flags-2.ensures)
           (part_written c.book-book.result.now k c.book-book.ensures kept (replicate 1024 0) c.mark.new.axioms (book_proper k).few_axioms done.axioms_are c.write_part.ensures)

@@ -2,7 +2,7 @@ use Rattle.std.proofs.Common.{Some, None, rules}
 use Rattle.vocabulary.specs.Entities.{entity}
 use Rattle.vocabulary.specs.Naming.{entities}
 use Rattle.extraction.proofs.Filling.{seeded_found}
-use Rattle.part.proofs.writing.records.is_seeded.Goals as goal
+use Rattle.part.proofs.writing.entries.is_seeded.Goals as goal
 
 pub returns-in-Some : goal.returns-in-Some
 returns-in-Some c =

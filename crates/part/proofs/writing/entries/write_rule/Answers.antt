@@ -2,7 +2,7 @@ use Rattle.terms.specs.Forms.{rule}
 use Rattle.terms.specs.Tables.{nodes_of}
 use Rattle.writer.proofs.Placed.{wrote_stop, wrote_as}
 use Rattle.part.proofs.Heads.{axiom_parts}
-use Rattle.part.proofs.writing.records.write_rule.Goals as goal
+use Rattle.part.proofs.writing.entries.write_rule.Goals as goal
 
 pub returns-in_err-next : goal.returns-in_err-next
 returns-in_err-next c =
