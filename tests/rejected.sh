@@ -1,17 +1,17 @@
 #!/bin/sh
 # Shows that the check rejects programs that use a draft or a frozen book as the other, by their types alone.
-# In a temporary copy of the repository a small library that depends on `book` is accepted, and then each wrong
-# variant of it is refused, with the expected error at the expected line.
+# In a temporary copy of `book` and the crates below it, a small library that depends on `book` is accepted, and then each
+# wrong variant of it is refused, with the expected error at the expected line.
 # Usage: sh tests/rejected.sh
 root=$(CDPATH='' cd -- "$(dirname -- "$0")/.." && pwd) || exit 2
 work=$(mktemp -d) || exit 2
 trap 'rm -rf "$work"' EXIT
 
 # What is proved already is taken over, so that only the small library is checked.
-mkdir -p "$work/target" "$work/crates/misuse/src" || exit 2
-cp -R "$root/crates.txt" "$root/crates" "$work" || exit 2
-for part in rlib stamp; do
-    [ ! -d "$root/target/$part" ] || cp -R "$root/target/$part" "$work/target" || exit 2
+mkdir -p "$work/crates/misuse/src" || exit 2
+for crate in vocabulary terms codec book; do
+    cp -R "$root/crates/$crate" "$work/crates" || exit 2
+    grep "^$crate:" "$root/crates.txt" >>"$work/crates.txt" || exit 2
 done
 echo 'misuse: book' >>"$work/crates.txt"
 
@@ -37,13 +37,13 @@ count() { # STATUS WORDS
     else
         bad=$((bad + 1))
         echo "FAIL $2"
-        grep -v "^rt: .* proved" "$work/said" | head -n 8
+        grep -v ": proved" "$work/said" | head -n 8
     fi
 }
 
 # Checks the library as it is now; what the check says is kept.
 check() {
-    (cd "$work" && rt check misuse) >"$work/said" 2>&1
+    (cd "$work/crates/misuse" && rt check) >"$work/said" 2>&1
 }
 
 accepted() { # WORDS
@@ -55,7 +55,7 @@ accepted() { # WORDS
 # A variant of the library by a sed command has to be refused with this error at this line.
 refused() { # WORDS COMMAND LINE ERROR
     sed "$2" "$work/right.rt" >"$work/crates/misuse/src/lib.rt"
-    ! check && grep -q "crates/misuse/src/lib\.rt:$3:[0-9]*: error\[$4\]" "$work/said"
+    ! check && grep -q "src/lib\.rt:$3:[0-9]*: error\[$4\]" "$work/said"
     count $? "$1: no error[$4] at line $3"
 }
 

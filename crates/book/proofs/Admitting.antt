@@ -8,7 +8,6 @@ use Rattle.terms.specs.declared.term.Term.{Term}
 use Rattle.terms.specs.Forms.{Rule}
 use Rattle.terms.specs.Reading.{got, bad, read_axiom}
 use Rattle.codec.specs.Building.{Begins}
-use Rattle.book.specs.declared.book.AxiomId.{AxiomId}
 use Rattle.book.specs.declared.fault.BookFault.{BookFault}
 use Rattle.book.specs.declared.fault.BookFault.TheVariants.{Item, LeftOver, AxiomsFull, BytesFull}
 use Rattle.book.specs.Contents.{Contents, bodies_length}

@@ -1,5 +1,5 @@
 -- What every book keeps, over the parts that it is made of, and how each call keeps it.
-use Rattle.std.proofs.Common.{◌≡◌, ℕ, zero, suc, ◌+◌, ◌-◌, ◌<◌, ◌≤◌, Bool, true, false, cond, ◌&&◌, ltb, leb, List, [], ◌∷◌, ◌++◌, map, length, get_or, take, set, Some, None, Ok, Err, Option, Result, sym, refl, ap, ◌∙◌, subst, append_assoc, append-nil, arith}
+use Rattle.std.proofs.Common.{◌≡◌, ℕ, zero, suc, ◌+◌, ◌<◌, ◌≤◌, Bool, true, false, cond, ◌&&◌, leb, List, [], ◌∷◌, ◌++◌, map, length, get_or, set, Some, None, Ok, Err, Option, Result, sym, refl, ap, ◌∙◌, subst, append_assoc, append-nil, arith}
 use mathlib.Core.Logic.{∥∥₁_elim}
 use Rattle.std.specs.List.{AllByRecursion}
 use Rattle.std.proofs.ByRecursion.{All-get_or, All-set, All-push}
@@ -12,19 +12,18 @@ use Rattle.vocabulary.specs.declared.fault.NameFault.TheVariants.{LabelTaken, Ta
 use Rattle.vocabulary.specs.declared.kind.Kind.{Kind}
 use Rattle.vocabulary.specs.declared.name.NameId.{NameId}
 use Rattle.vocabulary.specs.Kinds.{kind_of}
-use Rattle.vocabulary.specs.Entities.{Entity, kind_at, reseed, labelling, held}
+use Rattle.vocabulary.specs.Entities.{Entity, reseed, labelling, held}
 use Rattle.vocabulary.specs.Naming.{naming, naming_with, accepted, refused, fresh}
 use Rattle.vocabulary.proofs.Kept.{reseed_kinds}
 use Rattle.terms.specs.declared.«axiom».AxiomKind.{AxiomKind}
 use Rattle.terms.specs.declared.term.Term.{Term}
-use Rattle.terms.specs.Forms.{Rule, rule}
+use Rattle.terms.specs.Forms.{rule}
 use Rattle.terms.specs.Reading.{got, read_axiom}
 use Rattle.terms.specs.WellFormed.{well_formed}
 use Rattle.terms.specs.Writing.{body_bytes}
 use Rattle.terms.proofs.Growth.{well_grows, well_same}
 use Rattle.terms.proofs.Sets.{rules_set}
 use Rattle.codec.specs.declared.parsed.Parsed.{Parsed}
-use Rattle.codec.specs.Building.{Begins}
 use Rattle.codec.specs.Parsing.{Accepts}
 use Rattle.book.specs.declared.book.Filed.{Filed}
 use Rattle.book.specs.Contents.{Filing, filing, body_length, bodies_length, sound, Firm, reforce}

@@ -1,8 +1,7 @@
 -- What each call does to a book's contents, and what it answers. A refused call changes nothing.
-use Rattle.std.specs.Prelude.{◌≡◌, ℕ, ◌+◌, Bool, true, false, cond, ◌&&◌, List, [], ◌∷◌, ◌++◌, map, length, Some, None, Ok, Err, vec_items, Option, Result, ◌==◌, nat_le, nat_lt}
-use Rattle.vocabulary.specs.declared.fault.NameFault.{NameFault}
+use Rattle.std.specs.Prelude.{◌≡◌, ℕ, ◌+◌, Bool, true, cond, ◌&&◌, List, [], ◌∷◌, ◌++◌, map, length, Some, None, Ok, Err, vec_items, Option, Result, ◌==◌, nat_le, nat_lt}
 use Rattle.vocabulary.specs.declared.name.NameId.{NameId}
-use Rattle.vocabulary.specs.Entities.{Entity, reseed}
+use Rattle.vocabulary.specs.Entities.{reseed}
 use Rattle.vocabulary.specs.Naming.{Turn, accepted, refused, entities, naming}
 use Rattle.terms.specs.declared.«axiom».AxiomKind.{AxiomKind}
 use Rattle.terms.specs.declared.fault.ItemFault.TheVariants.{WrongName}
@@ -16,7 +15,7 @@ use Rattle.book.specs.declared.fault.BookFault.{BookFault}
 use Rattle.book.specs.declared.fault.BookFault.TheVariants.{Item, Name, LeftOver, AxiomsFull, BytesFull, NoSuchAxiom}
 use Rattle.book.specs.declared.fault.FileFault.{FileFault}
 use Rattle.book.specs.declared.fault.FileFault.TheVariants as File'
-use Rattle.book.specs.Contents.{Contents, Filing, filing, bodies_length, reforce}
+use Rattle.book.specs.Contents.{Contents, filing, bodies_length, reforce}
 
 abbrev pub contents : Book → Contents
 contents b = record { names = entities b.names; axioms = map (filing (nodes_of b.terms)) (vec_items b.axioms) }

@@ -1,5 +1,5 @@
 -- Readings one after the other, in a table that grows.
-use Rattle.std.proofs.Common.{◌≡◌, ℕ, zero, suc, ◌+◌, ◌-◌, ◌<◌, ◌≤◌, Bool, true, false, cond, ltb, List, [], ◌∷◌, ◌++◌, length, get_or, Some, None, Ok, Err, Option, Result, sym, refl, ap, ◌∙◌, subst, append_assoc, append-nil, sub-one, arith, length-append, rules, ltb-true}
+use Rattle.std.proofs.Common.{◌≡◌, ℕ, zero, suc, ◌+◌, ◌-◌, ◌<◌, Bool, true, false, cond, ltb, List, [], ◌∷◌, ◌++◌, length, get_or, Some, None, Ok, Err, Option, Result, sym, refl, ap, ◌∙◌, subst, append_assoc, append-nil, sub-one, arith, length-append, ltb-true}
 use Rattle.std.proofs.lemmas.List.{get_or_append_left, get_or_push}
 use Rattle.vocabulary.specs.Entities.{Entity}
 use Rattle.terms.specs.declared.«axiom».Axiom.{Axiom}
@@ -20,7 +20,7 @@ use Rattle.terms.specs.Tables.{Pushed}
 use Rattle.terms.specs.Reading.{Outcome, got, bad, next, known, read_code, read_term, read_rest, read_whole, read_axiom, read_role}
 use Rattle.codec.specs.declared.reader.BodyReader.{BodyReader}
 use Rattle.codec.specs.Steps.{Does, bytes, entities_of}
-use Rattle.codec.specs.Building.{Begins, Builds, Reads, left}
+use Rattle.codec.specs.Building.{Begins, Builds}
 
 pub begins_same : (ts : List Term) → Begins ts ts
 begins_same ts = record { more = []; grown = sym (append-nil ts) }

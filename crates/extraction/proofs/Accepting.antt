@@ -1,6 +1,5 @@
 -- Marking, refused and accepted.
-use Rattle.std.proofs.Common.{◌≡◌, ℕ, ◌<◌, ◌≤◌, Bool, true, false, cond, ◌⊎◌, List, length, Ok, Err, vec_items, sym, refl, ap, ◌∙◌, subst, ap₂, ⊎_elim}
-use lib.ListN.{length-map}
+use Rattle.std.proofs.Common.{◌≡◌, ℕ, ◌<◌, ◌≤◌, true, false, ◌⊎◌, List, length, Ok, Err, vec_items, sym, refl, ap, ◌∙◌, subst, ap₂, ⊎_elim}
 use Rattle.std.proofs.lemmas.Bool.{lt-ltb, le-ltb, or_left, or_right, or_from}
 use Rattle.vocabulary.specs.declared.table.Vocabulary.{Vocabulary}
 use Rattle.vocabulary.specs.Naming.{entities}
@@ -11,14 +10,13 @@ use Rattle.book.specs.Contents.{Contents}
 use Rattle.locality.specs.Tables.{listed_in}
 use Rattle.locality.specs.Meaning.{count_below}
 use Rattle.extraction.specs.declared.marking.Marking.{Marking}
-use Rattle.extraction.specs.declared.marking.MarkFault.{MarkFault}
 use Rattle.extraction.specs.declared.marking.MarkFault.TheVariants.{EmptySignature, ShortBuffer}
 use Rattle.extraction.specs.declared.tables.Tables.{Tables}
 use Rattle.extraction.specs.Extracts.{Holding}
 use Rattle.extraction.specs.Listing.{set_of}
 use Rattle.extraction.specs.Marking.{Buffers, MarksAs, by_number, overwritten, unseeded, too_short, marking}
 use Rattle.extraction.proofs.Filling.{axioms_number}
-use Rattle.extraction.specs.Sets.{Marks, axiom_count, name_count, outsiders, closed_signature, names_in, size}
+use Rattle.extraction.specs.Sets.{Marks, axiom_count, name_count, outsiders, names_in}
 
 module _ (b : Contents) (kept : Marks) (rounds : ℕ) (axioms names : List ℕ) where
   abbrev given : Buffers

@@ -1,9 +1,7 @@
 -- Counting and writing flags one after the other.
-use Rattle.std.proofs.Common.{◌≡◌, ℕ, zero, suc, ◌+◌, ◌<◌, ◌≤◌, Bool, true, false, cond, not, ◌&&◌, ◌||◌, List, [], ◌∷◌, length, set, sym, refl, ap, ◌∙◌, ap₂, add-one, arith}
+use Rattle.std.proofs.Common.{◌≡◌, ℕ, zero, suc, ◌+◌, ◌<◌, ◌≤◌, Bool, true, false, cond, not, List, [], ◌∷◌, length, set, sym, refl, ap, ◌∙◌, add-one, arith}
 use mir.Val.{bool_byte}
-use Rattle.std.proofs.lemmas.Bool.{cond-true, cond-false, or_from, or_left}
-use Rattle.book.specs.declared.book.Book.{Book}
-use Rattle.book.specs.Contents.{Contents}
+use Rattle.std.proofs.lemmas.Bool.{cond-true, cond-false, or_from}
 use Rattle.locality.specs.Meaning.{some_below, count_below}
 use Rattle.extraction.specs.Marking.{bit, overwritten}
 use Rattle.extraction.specs.Below.{some_from, count_most}

@@ -1,8 +1,7 @@
 -- One round of a stage, as it is done.
-use Rattle.std.proofs.Common.{◌≡◌, ℕ, zero, suc, ◌+◌, ◌<◌, ◌≤◌, Bool, true, false, not, ◌&&◌, ◌||◌, ltb, List, replicate, sym, refl, ap, ◌∙◌, subst, ap₂, ⊎_elim, add-one, arith}
+use Rattle.std.proofs.Common.{◌≡◌, ℕ, zero, suc, ◌+◌, ◌≤◌, Bool, true, false, not, ◌&&◌, ◌||◌, ltb, List, replicate, sym, refl, ap, ◌∙◌, subst, ap₂, ⊎_elim, add-one, arith}
 use mathlib.Core.Path.{fun_ext}
 use Rattle.std.proofs.lemmas.Bool.{both_ways, cases_Bool, lt-ltb, and_right}
-use Rattle.vocabulary.specs.declared.name.NameId.{NameId}
 use Rattle.terms.specs.Forms.{Rule}
 use Rattle.book.specs.declared.book.Book.{Book}
 use Rattle.book.specs.Calls.{contents}
@@ -15,9 +14,9 @@ use Rattle.extraction.specs.declared.tables.Tables.{Tables}
 use Rattle.extraction.specs.Extracts.{Holding, Inside, Consistent, RoundDone}
 use Rattle.extraction.specs.Listing.{set_of}
 use Rattle.extraction.specs.Midway.{Midway}
-use Rattle.extraction.specs.Rounds.{none, fresh, more, busy, stage_finish}
+use Rattle.extraction.specs.Rounds.{none, fresh, more, stage_finish}
 use Rattle.extraction.specs.Sets.{Marks, axiom_count, rule_at, signature, closed_signature}
-use Rattle.extraction.specs.Visits.{below, ListedTo, MarkedTo}
+use Rattle.extraction.specs.Visits.{below, MarkedTo}
 use Rattle.extraction.specs.Below.{none_at}
 use Rattle.extraction.proofs.Filling.{blank_none, axioms_number}
 use Rattle.extraction.specs.Steady.{fresh_parts, midway_start, midway_more, midway_last, midway_bound}

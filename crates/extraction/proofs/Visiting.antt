@@ -1,8 +1,8 @@
 -- Going through the axioms of a book.
-use Rattle.std.proofs.Common.{◌≡◌, ℕ, zero, suc, ◌+◌, ◌<◌, ◌≤◌, Bool, true, false, ◌&&◌, ◌||◌, eqb, ltb, List, length, get_or, set, vec_items, sym, refl, ap, ◌∙◌, ap₂, ⊎_elim, add-one, arith, length-set, get_or-set_other, get_or-set_same}
+use Rattle.std.proofs.Common.{◌≡◌, ℕ, ◌+◌, ◌<◌, ◌≤◌, Bool, true, false, ◌&&◌, ◌||◌, eqb, ltb, List, length, get_or, set, vec_items, sym, refl, ap, ◌∙◌, ap₂, ⊎_elim, add-one, arith, length-set, get_or-set_other, get_or-set_same}
 use mathlib.Core.Path.{fun_ext}
 use lib.ListN.{length-map}
-use Rattle.std.proofs.lemmas.Bool.{both_ways, cases_Bool, cases_eq, cases_order, eq-eqb, ne_eqb, and_right, and_from, or_right, lt-ltb, le-ltb}
+use Rattle.std.proofs.lemmas.Bool.{cases_eq, cases_order, eq-eqb, ne_eqb, and_right, and_from, or_right, lt-ltb, le-ltb}
 use Rattle.vocabulary.specs.declared.name.NameId.{NameId}
 use Rattle.vocabulary.specs.Entities.{entity}
 use Rattle.terms.specs.declared.table.Terms.{Terms}
@@ -17,7 +17,7 @@ use Rattle.locality.specs.Mentions.{in_rule}
 use Rattle.locality.specs.Tables.{listed_in}
 use Rattle.locality.specs.Worlds.{Names}
 use Rattle.extraction.specs.Listing.{set_of, Adds}
-use Rattle.extraction.specs.Sets.{Marks, Sound, axiom_count, rule_at, signature, closed_signature}
+use Rattle.extraction.specs.Sets.{Marks, axiom_count, rule_at, signature, closed_signature}
 use Rattle.extraction.specs.Visits.{below, ListedTo, MarkedTo}
 use Rattle.extraction.proofs.Filling.{filed_at, axioms_number}
 use Rattle.extraction.specs.Names.{rule_names}

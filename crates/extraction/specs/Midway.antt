@@ -3,7 +3,7 @@ use Rattle.std.specs.Prelude.{◌≡◌, ℕ, suc, ◌+◌, ◌≤◌, Bool}
 use Rattle.terms.specs.Forms.{Rule}
 use Rattle.book.specs.Contents.{Contents}
 use Rattle.locality.specs.Worlds.{Names}
-use Rattle.extraction.specs.Rounds.{Finish, rounds_from, stage_finish}
+use Rattle.extraction.specs.Rounds.{rounds_from, stage_finish}
 use Rattle.extraction.specs.Sets.{Marks, axiom_count, size}
 
 -- after so many rounds that each marked an axiom, s is marked: the rounds from here on come to what the stage comes to

@@ -7,7 +7,7 @@ use Rattle.locality.specs.declared.filling.Filling.{Filling}
 use Rattle.locality.specs.Tables.{default_of, local_rule}
 use Rattle.locality.specs.Worlds.{World, Names}
 use Rattle.extraction.specs.Extractors.{StageLaws}
-use Rattle.extraction.specs.Rounds.{Finish, stage_finish, add_rounds, stage_repair}
+use Rattle.extraction.specs.Rounds.{stage_finish, add_rounds, stage_repair}
 use Rattle.extraction.specs.Sets.{Marks, is_in_force, closed_signature}
 
 abbrev pub test_of : Filling → Rule → Names → Bool

@@ -1,7 +1,6 @@
 -- Sets of a book's axioms, the signature of the book, and the names that belong to a set of its axioms.
-use Rattle.std.specs.Prelude.{◌≡◌, ℕ, Bool, true, false, not, ◌&&◌, ◌||◌, List, [], length, slice_index_or}
+use Rattle.std.specs.Prelude.{◌≡◌, ℕ, Bool, true, false, not, ◌&&◌, ◌||◌, [], length, slice_index_or}
 use Rattle.vocabulary.specs.declared.kind.Kind.TheVariants as Kind'
-use Rattle.vocabulary.specs.declared.name.NameId.{NameId}
 use Rattle.vocabulary.specs.Entities.{Entity}
 use Rattle.vocabulary.specs.Lists.{every}
 use Rattle.terms.specs.Forms.{Rule, nothing, inclusion}

@@ -4,7 +4,7 @@ use Rattle.terms.specs.Forms.{Rule}
 use Rattle.book.specs.Contents.{Contents}
 use Rattle.locality.specs.Worlds.{World, Names, Default}
 use Rattle.extraction.specs.Extractors.{StageLaws}
-use Rattle.extraction.specs.Rounds.{Finish, stage_finish, add_rounds, stage_repair}
+use Rattle.extraction.specs.Rounds.{stage_finish, add_rounds, stage_repair}
 use Rattle.extraction.specs.Sets.{Marks, closed_signature}
 
 module _ (local : Rule → Names → Bool) (kept : Contents → Marks) where

@@ -1,11 +1,10 @@
 -- Going through the axioms of a book, with the names of those chosen added to a list.
-use Rattle.std.specs.Prelude.{◌≡◌, ℕ, Bool, true, ◌&&◌, ◌||◌, List, length, nat_lt}
+use Rattle.std.specs.Prelude.{◌≡◌, ℕ, Bool, ◌&&◌, ◌||◌, List, length, nat_lt}
 use Rattle.book.specs.Contents.{Contents}
 use Rattle.locality.specs.Meaning.{some_below}
 use Rattle.locality.specs.Mentions.{in_rule}
 use Rattle.locality.specs.Tables.{listed_in}
 use Rattle.locality.specs.Worlds.{Names}
-use Rattle.extraction.specs.declared.tables.Tables.{Tables}
 use Rattle.extraction.specs.Listing.{set_of}
 use Rattle.extraction.specs.Sets.{Marks, rule_at}
 

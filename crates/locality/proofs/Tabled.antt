@@ -1,5 +1,5 @@
 -- Every axiom whose terms lie in a table has counts of at least 1, since a count of a term is.
-use Rattle.std.proofs.Common.{◌≡◌, ℕ, zero, suc, Bool, true, List, get_or, refl}
+use Rattle.std.proofs.Common.{◌≡◌, ℕ, zero, suc, true, List, get_or, refl}
 use Rattle.std.proofs.lemmas.Bool.{and_from, le-leb}
 use Rattle.terms.specs.declared.term.TermId.{TermId}
 use Rattle.terms.specs.declared.term.Term.{Term}

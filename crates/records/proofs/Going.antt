@@ -1,13 +1,12 @@
 -- One record after the other.
-use Rattle.std.proofs.Common.{◌≡◌, ℕ, zero, suc, ◌+◌, ◌-◌, ◌^◌, ◌<◌, ◌≤◌, Bool, true, false, cond, ltb, leb, List, length, take, drop, IfOk, IfErr, Ok, Err, Result, sym, refl, ap, ◌∙◌, subst, arith, length-drop, length-take, ltb-false, le-leb}
+use Rattle.std.proofs.Common.{◌≡◌, ℕ, zero, suc, ◌+◌, ◌^◌, ◌<◌, ◌≤◌, Bool, true, false, cond, ltb, List, length, take, drop, IfOk, IfErr, Ok, Err, Result, sym, refl, ap, ◌∙◌, subst, arith, length-drop, length-take, ltb-false, le-leb}
 use borrow.Author.Tests.{lt-leb}
 use Rattle.vocabulary.specs.Naming.{accepted, refused}
 use Rattle.book.specs.declared.book.Draft.{Draft}
 use Rattle.book.specs.declared.fault.FileFault.{FileFault}
 use Rattle.book.specs.declared.fault.FileFault.TheVariants.{CutShort}
 use Rattle.book.specs.Contents.{Contents}
-use Rattle.book.specs.Calls.{Gives, contents, raise}
-use Rattle.records.specs.declared.fault.LoadFault.{LoadFault}
+use Rattle.book.specs.Calls.{Gives, contents}
 use Rattle.records.specs.declared.reader.Record.{Record}
 use Rattle.records.specs.declared.reader.RecordReader.{RecordReader}
 use Rattle.records.specs.Files.{Entry, word_at, record_at}
@@ -15,7 +14,7 @@ use Rattle.records.specs.Loading.{Loaded, record_turn, after_record, after_turn,
 use Rattle.records.specs.Outcomes.{Stepped, Ends, onward}
 use Rattle.records.specs.Places.{place_in}
 use Rattle.records.specs.Reading.{Yields, entry_of}
-use Rattle.records.specs.Stops.{Stop, stop_of, told, located_at}
+use Rattle.records.specs.Stops.{Stop, located_at}
 use Rattle.records.proofs.Near.{turn_place}
 
 -- a record lies in its file

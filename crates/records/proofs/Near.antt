@@ -1,5 +1,5 @@
 -- The place of a record's fault lies within its body.
-use Rattle.std.proofs.Common.{◌≡◌, ℕ, ◌+◌, ◌*◌, ◌<◌, ◌≤◌, Bool, true, false, cond, eqb, ltb, leb, List, [], ◌∷◌, length, Some, None, Ok, Err, Option, Result, sym, refl, subst, arith, ltb-true}
+use Rattle.std.proofs.Common.{◌≡◌, ℕ, ◌+◌, ◌*◌, ◌≤◌, Bool, true, false, cond, eqb, ltb, leb, List, [], ◌∷◌, length, Some, None, Ok, Err, Option, Result, sym, refl, subst, arith, ltb-true}
 use Rattle.vocabulary.specs.declared.fault.NameFault.{NameFault}
 use Rattle.vocabulary.specs.declared.fault.NameFault.TheVariants.{BadKind, LabelLength, LabelByte, LabelTaken, TableFull}
 use Rattle.vocabulary.specs.declared.name.NameId.{NameId}
@@ -11,16 +11,15 @@ use Rattle.terms.specs.Codes.{axiom_kind_of}
 use Rattle.terms.specs.Forms.{Rule}
 use Rattle.terms.specs.Reading.{Outcome, got, bad, read_axiom}
 use Rattle.terms.proofs.Within.{fault_within}
-use Rattle.book.specs.declared.book.AxiomId.{AxiomId}
 use Rattle.book.specs.declared.fault.BookFault.{BookFault}
-use Rattle.book.specs.declared.fault.BookFault.TheVariants.{Item, Name, LeftOver, AxiomsFull, BytesFull, NoSuchAxiom}
+use Rattle.book.specs.declared.fault.BookFault.TheVariants.{Item, Name, LeftOver, AxiomsFull, BytesFull}
 use Rattle.book.specs.declared.fault.FileFault.{FileFault}
 use Rattle.book.specs.declared.fault.FileFault.TheVariants.{NotEmpty, CutShort, UnknownKind, BodyTooLong, Book}
 use Rattle.book.specs.Contents.{Contents, bodies_length}
-use Rattle.book.specs.Calls.{raise, naming_call, seeding_call, filing_call, filing_of, admission, admitting, adding, obstacle_of}
+use Rattle.book.specs.Calls.{raise, filing_call, filing_of, admission, admitting, adding, obstacle_of}
 use Rattle.book.specs.Refusals.{book_refusal, file_refusal}
 use Rattle.records.specs.Files.{Entry}
-use Rattle.records.specs.Loading.{Taking, done, taken_as, name_record, seed_record, seed_item, bounded, record_turn}
+use Rattle.records.specs.Loading.{Taking, done, taken_as, name_record, seed_record, bounded, record_turn}
 use Rattle.records.specs.Places.{place_in}
 
 -- a fault's place is at most n

@@ -1,6 +1,6 @@
 -- The format of a file: records one after the other. A record begins with two numbers of two bytes, the length of its body
 -- and its kind; the body follows.
-use Rattle.std.specs.Prelude.{ℕ, ◌+◌, ◌*◌, Bool, cond, List, length, take, drop, Ok, Err, Result, nat_lt, slice_index}
+use Rattle.std.specs.Prelude.{ℕ, ◌+◌, ◌*◌, cond, List, length, take, drop, Ok, Err, Result, nat_lt, slice_index}
 use Rattle.book.specs.declared.fault.FileFault.{FileFault}
 use Rattle.book.specs.declared.fault.FileFault.TheVariants.{CutShort}
 

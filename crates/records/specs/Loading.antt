@@ -1,5 +1,5 @@
 -- Loading: what the records of a file do to a book, one after the other.
-use Rattle.std.specs.Prelude.{◌≡◌, ℕ, zero, suc, ◌+◌, ◌*◌, Bool, true, false, cond, List, [], ◌∷◌, length, Ok, Err, Result, ◌==◌, nat_le, nat_lt}
+use Rattle.std.specs.Prelude.{ℕ, zero, suc, ◌+◌, ◌*◌, true, cond, List, [], ◌∷◌, length, Ok, Err, Result, ◌==◌, nat_le, nat_lt}
 use Rattle.vocabulary.specs.declared.fault.NameFault.TheVariants.{BadKind}
 use Rattle.vocabulary.specs.Naming.{Turn, accepted, refused}
 use Rattle.terms.specs.declared.fault.ItemFault.TheVariants as Item'

@@ -1,5 +1,5 @@
 -- A refused loading, and its number, layer and place.
-use Rattle.std.specs.Prelude.{ℕ, Ok, Err, Result}
+use Rattle.std.specs.Prelude.{ℕ, Result}
 use Rattle.vocabulary.specs.declared.refusal.Refusal.{Refusal}
 use Rattle.book.specs.declared.fault.FileFault.{FileFault}
 use Rattle.book.specs.Refusals.{file_refusal}

@@ -1,5 +1,5 @@
 -- What was written is what follows from the calls.
-use Rattle.std.proofs.Common.{◌≡◌, ℕ, Bool, true, false, List, Some, None, Option, Result, sym, refl, ap, ◌∙◌, subst}
+use Rattle.std.proofs.Common.{ℕ, true, List, Some, Option, Result, ap, subst}
 use Rattle.book.specs.Contents.{Contents}
 use Rattle.locality.specs.Worlds.{World}
 use Rattle.extraction.specs.declared.marking.MarkFault.{MarkFault}
@@ -12,10 +12,9 @@ use Rattle.part.proofs.Delivered.{part_again}
 use Rattle.part.proofs.ReadsBack.{loads_back}
 use Rattle.runs.specs.declared.state.State.{State}
 use Rattle.runs.specs.declared.state.State.TheVariants.{Draft, Frozen}
-use Rattle.runs.specs.Delivery.{Delivers, Delivered, DeliversPromised, delivery}
+use Rattle.runs.specs.Delivery.{Delivers, DeliversPromised, delivery}
 use Rattle.runs.specs.History.{book_after, history}
-use Rattle.runs.specs.Promise.{follows}
-use Rattle.runs.specs.Steps.{Step, Standing, standing, drawn}
+use Rattle.runs.specs.Steps.{Standing, standing}
 use Rattle.runs.proofs.Upholding.{same_standing}
 
 -- every book that calls are performed on can be written and loaded back

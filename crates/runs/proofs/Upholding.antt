@@ -1,5 +1,5 @@
 -- What was marked is what follows from the calls.
-use Rattle.std.proofs.Common.{◌≡◌, ℕ, Bool, true, false, List, [], ◌∷◌, ◌++◌, Some, None, Option, Result, sym, refl, ap, ◌∙◌, subst}
+use Rattle.std.proofs.Common.{◌≡◌, ℕ, true, List, [], ◌∷◌, ◌++◌, Some, Option, Result, refl, ap, ◌∙◌, subst}
 use Rattle.book.specs.Contents.{Contents}
 use Rattle.locality.specs.Worlds.{World}
 use Rattle.extraction.specs.declared.marking.Marking.{Marking}
@@ -9,9 +9,9 @@ use Rattle.extraction.specs.Marking.{Buffers, MarksAs, marking}
 use Rattle.extraction.specs.Sets.{Marks, Sound}
 use Rattle.runs.specs.declared.state.State.{State}
 use Rattle.runs.specs.declared.state.State.TheVariants.{Draft, Frozen}
-use Rattle.runs.specs.Steps.{Step, Standing, standing, start, performing, performed, drawn}
+use Rattle.runs.specs.Steps.{Step, Standing, standing, performing, performed, drawn}
 use Rattle.runs.specs.History.{book_after, history}
-use Rattle.runs.specs.Promise.{Attempts, Upheld, Promised, attempt, follows}
+use Rattle.runs.specs.Promise.{Attempts, Promised, attempt, follows}
 use Rattle.runs.proofs.Told.{book_told}
 
 module _ (kept : Contents → Marks) (rounds : Contents → ℕ) where

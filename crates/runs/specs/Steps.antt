@@ -5,7 +5,7 @@ use Rattle.book.specs.Contents.{Contents}
 use Rattle.book.specs.Calls.{contents, empty, naming_call, seeding_call, forcing_call, filing_call}
 use Rattle.book.specs.Refusals.{book_refusal, file_refusal}
 use Rattle.records.specs.Loading.{loading}
-use Rattle.records.specs.Stops.{Stop, load_refusal}
+use Rattle.records.specs.Stops.{load_refusal}
 use Rattle.runs.specs.declared.call.Call.{Call}
 use Rattle.runs.specs.declared.call.Call.TheVariants as Call'
 use Rattle.runs.specs.declared.state.State.{State}

@@ -1,5 +1,5 @@
 -- The bytes and numbers that stand for term codes, directions and axiom kinds.
-use Rattle.std.specs.Prelude.{ℕ, Bool, true, false, cond, Some, None, Option, ◌==◌, nat_le}
+use Rattle.std.specs.Prelude.{ℕ, cond, Some, None, Option, ◌==◌, nat_le}
 use Rattle.terms.specs.declared.code.Code.{Code}
 use Rattle.terms.specs.declared.code.Code.TheVariants as Code'
 use Rattle.terms.specs.declared.code.Direction.{Direction}

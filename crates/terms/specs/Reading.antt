@@ -1,5 +1,5 @@
 -- The format of a body: how its bytes are read from left to right, item by item, and which item is the first faulty one.
-use Rattle.std.specs.Prelude.{ℕ, zero, suc, ◌+◌, ◌*◌, Bool, true, false, cond, List, length, Some, None, Option, nat_lt, slice_index}
+use Rattle.std.specs.Prelude.{ℕ, zero, suc, ◌+◌, ◌*◌, Bool, false, cond, List, length, Some, None, Option, nat_lt, slice_index}
 use Rattle.vocabulary.specs.declared.kind.Kind.{Kind}
 use Rattle.vocabulary.specs.declared.kind.Kind.TheVariants as Kind'
 use Rattle.vocabulary.specs.declared.name.NameId.{NameId}

@@ -1,5 +1,5 @@
 -- What a table of terms holds.
-use Rattle.std.specs.Prelude.{◌≡◌, ℕ, Bool, cond, List, [], ◌∷◌, ◌++◌, length, Some, None, vec_items, Option, nat_lt}
+use Rattle.std.specs.Prelude.{◌≡◌, cond, List, [], ◌∷◌, ◌++◌, length, Some, None, vec_items, Option, nat_lt}
 use Rattle.terms.specs.declared.term.Term.{Term}
 use Rattle.terms.specs.declared.term.TermId.{TermId}
 use Rattle.terms.specs.declared.table.Terms.{Terms}

@@ -1,6 +1,6 @@
 -- Which terms and axioms a book may hold: each number belongs to a name of the kind wanted there, each count is from
 -- 1 to 65,535, and no term has more than 24 levels.
-use Rattle.std.specs.Prelude.{ℕ, Bool, true, ◌&&◌, List, nat_le}
+use Rattle.std.specs.Prelude.{Bool, true, ◌&&◌, List, nat_le}
 use Rattle.vocabulary.specs.declared.kind.Kind.{Kind}
 use Rattle.vocabulary.specs.declared.kind.Kind.TheVariants.{Concept, Role, Individual}
 use Rattle.vocabulary.specs.declared.name.NameId.{NameId}

@@ -1,5 +1,5 @@
 -- The names of a book: each has a kind, a label, and stands in the signature or not.
-use Rattle.std.specs.Prelude.{ℕ, zero, suc, Bool, true, false, cond, not, ◌&&◌, List, [], ◌∷◌, take, Some, None, Ok, Err, Option, Result}
+use Rattle.std.specs.Prelude.{ℕ, zero, suc, Bool, true, cond, not, ◌&&◌, List, [], ◌∷◌, take, Some, None, Ok, Err, Option, Result}
 use Rattle.std.specs.Str.{bytes_eq}
 use Rattle.std.specs.Option.{option_map}
 use Rattle.vocabulary.specs.declared.fault.NameFault.{NameFault}

@@ -1,5 +1,5 @@
-use Rattle.std.proofs.Common.{sym, ap, arith, rules}
-use Rattle.writer.proofs.Placed.{wrote_stop, wrote_then, wrote_as, wrote_none}
+use Rattle.std.proofs.Common.{sym, ap, arith}
+use Rattle.writer.proofs.Placed.{wrote_stop, wrote_then, wrote_as}
 use Rattle.writer.proofs.+put_term.Goals as goal
 use Rattle.terms.specs.Writing.{term_bytes, two_bytes}
 

@@ -1,5 +1,4 @@
-use Rattle.std.proofs.Common.{refl, ap, arith, rules}
-use Rattle.writer.proofs.Placed.{wrote_stop, wrote_then, wrote_as, wrote_none}
+use Rattle.writer.proofs.Placed.{wrote_none}
 use Rattle.writer.proofs.put.Goals as goal
 
 pub returns-then-at-out : goal.returns-then-at-out

@@ -1,5 +1,5 @@
-use Rattle.std.proofs.Common.{refl, ap, arith, rules}
-use Rattle.writer.proofs.Placed.{wrote_stop, wrote_then, wrote_as, wrote_none}
+use Rattle.std.proofs.Common.{ap}
+use Rattle.writer.proofs.Placed.{wrote_stop, wrote_as}
 use Rattle.writer.proofs.put_role.Goals as goal
 use Rattle.terms.specs.Writing.{role_bytes}
 

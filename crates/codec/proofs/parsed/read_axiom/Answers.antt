@@ -1,4 +1,4 @@
-use Rattle.std.proofs.Common.{ℕ, ◌+◌, ◌<◌, ◌≤◌, length, get_or, take, refl, ap, ◌∙◌, arith, rules}
+use Rattle.std.proofs.Common.{ℕ, ◌+◌, ◌<◌, ◌≤◌, length, get_or, take, refl, ap, ◌∙◌, arith}
 use Rattle.terms.specs.Tables.{nodes_of}
 use Rattle.codec.proofs.Accepting.{accepts, refuses}
 use Rattle.codec.proofs.parsed.read_axiom.Goals as goal

@@ -1,4 +1,3 @@
-use Rattle.std.proofs.Common.{rules}
 use Rattle.terms.specs.Forms.{meaning}
 use Rattle.extraction.proofs.mentions.list_whole.Goals as goal
 

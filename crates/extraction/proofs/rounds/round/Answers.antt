@@ -1,4 +1,4 @@
-use Rattle.std.proofs.Common.{◌≡◌, ◌<◌, sym, refl, ap, ◌∙◌, subst, rules}
+use Rattle.std.proofs.Common.{◌≡◌, sym, ap, ◌∙◌, subst, rules}
 use Rattle.book.specs.Calls.{contents}
 use Rattle.locality.specs.Mentions.{in_rule}
 use Rattle.extraction.specs.Listing.{set_of, Adds}

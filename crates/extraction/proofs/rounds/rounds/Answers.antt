@@ -1,8 +1,6 @@
-use Rattle.std.proofs.Common.{◌≡◌, ◌<◌, ◌≤◌, true, false, sym, refl, ap, arith, rules}
+use Rattle.std.proofs.Common.{refl, arith, rules}
 use Rattle.book.specs.Calls.{contents}
-use Rattle.extraction.specs.Extracts.{Inside}
 use Rattle.extraction.proofs.Rounding.{stage_begins, list_begins, round_more, round_last, few_rounds}
-use Rattle.extraction.proofs.rounds.rounds.Given as given
 use Rattle.extraction.proofs.rounds.rounds.Goals as goal
 
 pub loop-marking-init : goal.loop-marking-init

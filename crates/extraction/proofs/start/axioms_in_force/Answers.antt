@@ -1,4 +1,4 @@
-use Rattle.std.proofs.Common.{◌≤◌, length, vec_items, sym, ap, ◌∙◌, arith, rules}
+use Rattle.std.proofs.Common.{length, vec_items, sym, ap, arith, rules}
 use Rattle.terms.specs.Tables.{nodes_of}
 use Rattle.book.specs.Calls.{contents}
 use Rattle.extraction.proofs.Filling.{fill_start, fill_next, fill_done, filed_at, axioms_number}

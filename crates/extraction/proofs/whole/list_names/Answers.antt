@@ -1,9 +1,6 @@
-use Rattle.std.proofs.Common.{length, sym, refl, ap, subst, arith, rules}
+use Rattle.std.proofs.Common.{refl, subst, rules}
 use Rattle.locality.specs.Mentions.{in_rule}
-use Rattle.book.specs.Calls.{contents}
 use Rattle.extraction.specs.Listing.{Adds}
-use Rattle.extraction.specs.Visits.{ListedTo}
-use Rattle.extraction.proofs.Filling.{axioms_number}
 use Rattle.extraction.proofs.Visiting.{all_visited, list_all, list_start, list_skip, list_next, rule_room, rule_at_number}
 use Rattle.extraction.proofs.whole.list_names.Goals as goal
 use Rattle.extraction.proofs.whole.list_names.Goals.{then-kept-number, else-kept-number}

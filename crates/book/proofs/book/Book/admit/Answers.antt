@@ -1,15 +1,14 @@
-use Rattle.std.proofs.Common.{◌≡◌, ℕ, ◌+◌, ◌≤◌, true, List, [], ◌∷◌, ◌++◌, map, length, Some, Ok, Err, vec_items, Result, sym, refl, ap, ◌∙◌, subst, arith, rules}
+use Rattle.std.proofs.Common.{◌≡◌, ℕ, ◌+◌, List, map, length, Some, Ok, Err, vec_items, Result, sym, ap, ◌∙◌, subst, rules}
 use lib.ListN.{length-map}
 use Rattle.std.proofs.lemmas.Result.{err_from_is_err_and}
 use Rattle.vocabulary.specs.Naming.{entities}
 use Rattle.terms.specs.declared.term.Term.{Term}
-use Rattle.terms.specs.Forms.{rule}
 use Rattle.terms.specs.Tables.{nodes_of}
 use Rattle.codec.specs.Parsing.{Parses, Accepts, Refuses}
 use Rattle.book.specs.declared.book.AxiomId.{AxiomId}
 use Rattle.book.specs.declared.book.Filed.{Filed}
 use Rattle.book.specs.declared.fault.BookFault.{BookFault}
-use Rattle.book.specs.Contents.{Contents, filing, bodies_length}
+use Rattle.book.specs.Contents.{Contents, filing}
 use Rattle.book.specs.Calls.{contents}
 use Rattle.book.proofs.Keeping.{Whole, whole_at, filed, filings_add, read_is}
 use Rattle.book.proofs.Admitting.{cut_back, admission_bad, admission_stopped, admission_done, nothing_against}

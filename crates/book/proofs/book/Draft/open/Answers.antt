@@ -1,8 +1,5 @@
-use Rattle.std.proofs.Common.{◌≡◌, ℕ, List, [], length, sym, refl, subst, arith, rules}
-use Rattle.terms.specs.declared.term.Term.{Term}
-use Rattle.vocabulary.specs.Entities.{Entity}
-use Rattle.book.specs.declared.book.Filed.{Filed}
-use Rattle.book.proofs.Keeping.{Whole, whole_empty}
+use Rattle.std.proofs.Common.{rules}
+use Rattle.book.proofs.Keeping.{whole_empty}
 use Rattle.book.proofs.book.Draft.open.Goals as goal
 
 pub invariant_of-result : goal.invariant_of-result

@@ -1,4 +1,4 @@
-use Rattle.std.proofs.Common.{arith, rules}
+use Rattle.std.proofs.Common.{arith}
 use Rattle.std.proofs.lemmas.Result.{err_from_is_err_and}
 use Rattle.codec.proofs.Chains.{and_err, and_ok, term_bad_code, term_err, term_ok}
 use Rattle.codec.proofs.reader.BodyReader.+after_code_term.Goals as goal

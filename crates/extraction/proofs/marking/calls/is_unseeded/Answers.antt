@@ -1,9 +1,9 @@
-use Rattle.std.proofs.Common.{length, sym, ap, ◌∙◌, arith, rules}
+use Rattle.std.proofs.Common.{length, sym, ap, arith}
 use Rattle.vocabulary.specs.Naming.{entities}
 use Rattle.book.specs.Calls.{contents}
 use Rattle.extraction.specs.Marking.{by_number}
 use Rattle.extraction.specs.Sets.{signature}
-use Rattle.extraction.proofs.Counting.{none_more, found_one, found_none}
+use Rattle.extraction.proofs.Counting.{none_more, found_one}
 use Rattle.extraction.proofs.marking.calls.is_unseeded.Goals as goal
 
 pub returns-then-is_seeded : goal.returns-then-is_seeded

@@ -1,4 +1,4 @@
-use Rattle.std.proofs.Common.{Ok, Err, refl, subst, inl, inr, ⊎_elim, rules}
+use Rattle.std.proofs.Common.{Ok, Err, subst, inl, inr, ⊎_elim, rules}
 use Rattle.book.specs.Calls.{contents}
 use Rattle.extraction.specs.declared.marking.MarkFault.TheVariants.{EmptySignature, ShortBuffer}
 use Rattle.extraction.specs.Marking.{MarksAs, marking}

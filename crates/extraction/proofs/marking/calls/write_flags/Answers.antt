@@ -1,4 +1,4 @@
-use Rattle.std.proofs.Common.{◌<◌, length, set, sym, ap, ◌∙◌, ap₂, rules}
+use Rattle.std.proofs.Common.{◌<◌, length, set, ◌∙◌, ap₂, rules}
 use Rattle.extraction.specs.Listing.{set_of}
 use Rattle.extraction.proofs.Counting.{overwritten_more, flag_byte}
 use Rattle.extraction.proofs.marking.calls.write_flags.Goals as goal

@@ -1,4 +1,4 @@
-use Rattle.std.proofs.Common.{sym, ap, ◌∙◌, rules}
+use Rattle.std.proofs.Common.{sym, ap, ◌∙◌}
 use Rattle.book.specs.Calls.{contents}
 use Rattle.extraction.specs.Names.{in_force_below}
 use Rattle.extraction.proofs.stage.StageExtractor.extract.Goals as goal

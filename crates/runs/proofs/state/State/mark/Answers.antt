@@ -1,4 +1,4 @@
-use Rattle.std.proofs.Common.{Some, None, sym, refl}
+use Rattle.std.proofs.Common.{Some, None, refl}
 use Rattle.book.specs.Calls.{contents}
 use Rattle.runs.specs.Promise.{Attempts, attempt}
 use Rattle.runs.specs.Steps.{standing}

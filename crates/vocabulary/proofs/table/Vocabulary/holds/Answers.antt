@@ -1,4 +1,4 @@
-use Rattle.std.proofs.Common.{sym, ◌∙◌, rules}
+use Rattle.std.proofs.Common.{rules}
 use Rattle.vocabulary.proofs.Scans.{any_stop, any_more, any_done, any_map}
 use Rattle.vocabulary.proofs.table.Vocabulary.holds.Goals as goal
 

@@ -1,4 +1,4 @@
-use Rattle.std.proofs.Common.{arith, rules}
+use Rattle.std.proofs.Common.{rules}
 use lib.ListN.{length-map}
 use Rattle.vocabulary.proofs.Kept.{kind_within, kind_past}
 use Rattle.vocabulary.proofs.table.Vocabulary.kind_of.Goals as goal

@@ -1,4 +1,4 @@
-use Rattle.std.proofs.Common.{◌≡◌, ◌<◌, map, length, set, vec_items, refl, arith, rules}
+use Rattle.std.proofs.Common.{◌≡◌, ◌<◌, map, length, set, vec_items, refl, rules}
 use lib.ListN.{length-map}
 use Rattle.vocabulary.specs.declared.name.Name.{Name}
 use Rattle.vocabulary.specs.Entities.{entity, reseed}
