@@ -55,7 +55,7 @@ accepted() { # WORDS
 # A variant of the library by a sed command has to be refused with this error at this line.
 refused() { # WORDS COMMAND LINE ERROR
     sed "$2" "$work/right.rt" >"$work/crates/misuse/src/lib.rt"
-    ! check && grep -q "src/lib\.rt:$3:[0-9]*: error\[$4\]" "$work/said"
+    ! check && grep -q "^src/lib\.rt:$3:[0-9]*: error\[$4\]" "$work/said"
     count $? "$1: no error[$4] at line $3"
 }
 

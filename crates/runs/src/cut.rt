@@ -22,7 +22,7 @@ impl State {
         axioms: &mut [u8],
         names: &mut [u8],
     ) -> Cut
-        ensures { Cuts (standing self) (map step_of calls.now) (E.Extractor.kept pile.now) (E.Extractor.repair pile.now) (E.Extractor.rounds pile.now) (E.Extractor.stages pile.now) (record { axioms = axioms.entry.now; names = names.old }) axioms.exit.now names.new result }
+        ensures { Cuts (standing self) (map step_of calls.now) (E.Extractor.kept pile.now) (E.Extractor.repair pile.now) (E.Extractor.rounds pile.now) (E.Extractor.stages pile.now) (record { axioms = axioms.old; names = names.old }) axioms.new names.new result }
     {
         let state = self.perform_all(calls);
         let marking = state.mark(pile, axioms, names);

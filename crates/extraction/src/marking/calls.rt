@@ -99,7 +99,7 @@ pub fn mark<E: Extractor>(
     axioms: &mut [u8],
     names: &mut [u8],
 ) -> Result<Marking, MarkFault>
-    ensures gives { MarksAs axioms.exit.now names.new result (marking (contents frozen.now.book) (E.Extractor.kept pile.now (contents frozen.now.book)) (E.Extractor.rounds pile.now (contents frozen.now.book)) (record { axioms = axioms.entry.now; names = names.old })) }
+    ensures gives { MarksAs axioms.new names.new result (marking (contents frozen.now.book) (E.Extractor.kept pile.now (contents frozen.now.book)) (E.Extractor.rounds pile.now (contents frozen.now.book)) (record { axioms = axioms.old; names = names.old })) }
     ensures means { Meaning (contents frozen.now.book) (E.Extractor.kept pile.now (contents frozen.now.book)) (E.Extractor.repair pile.now (contents frozen.now.book)) (E.Extractor.rounds pile.now (contents frozen.now.book)) }
     ensures promises { E.Extractor.stages pile.now (contents frozen.now.book) }
 {

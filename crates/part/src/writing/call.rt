@@ -28,7 +28,7 @@ pub fn write<E: Extractor>(
     names: &mut [u8],
     part: &mut [u8],
 ) -> Result<usize, MarkFault>
-    ensures gives { WritesAs axioms.exit.now names.new part.new result (writing (contents frozen.now.book) (E.Extractor.kept pile.now (contents frozen.now.book)) (record { axioms = axioms.entry.now; names = names.old; part = part.old })) }
+    ensures gives { WritesAs axioms.new names.new part.new result (writing (contents frozen.now.book) (E.Extractor.kept pile.now (contents frozen.now.book)) (record { axioms = axioms.old; names = names.old; part = part.old })) }
     ensures back { ReadBack (contents frozen.now.book) (E.Extractor.kept pile.now (contents frozen.now.book)) }
     ensures again { WrittenAgain (contents frozen.now.book) (E.Extractor.kept pile.now (contents frozen.now.book)) }
     ensures means { Meaning (contents frozen.now.book) (E.Extractor.kept pile.now (contents frozen.now.book)) (E.Extractor.repair pile.now (contents frozen.now.book)) (E.Extractor.rounds pile.now (contents frozen.now.book)) }

@@ -41,8 +41,8 @@ impl Pile {
         axioms: &mut [u8],
         names: &mut [u8],
     ) -> Option<Result<Marking, MarkFault>>
-        ensures gives { Attempts axioms.exit.now names.new result (attempt (pile_kept (stack_of self)) (pile_rounds (stack_of self)) (standing state.now) (record { axioms = axioms.entry.now; names = names.old })) }
-        ensures promise { Promised (standing state.now) (pile_kept (stack_of self)) (pile_repair (stack_of self)) (pile_rounds (stack_of self)) (PileLaws (stack_of self)) (record { axioms = axioms.entry.now; names = names.old }) axioms.exit.now names.new result }
+        ensures gives { Attempts axioms.new names.new result (attempt (pile_kept (stack_of self)) (pile_rounds (stack_of self)) (standing state.now) (record { axioms = axioms.old; names = names.old })) }
+        ensures promise { Promised (standing state.now) (pile_kept (stack_of self)) (pile_repair (stack_of self)) (pile_rounds (stack_of self)) (PileLaws (stack_of self)) (record { axioms = axioms.old; names = names.old }) axioms.new names.new result }
     {
         match self {
             Pile::Whole => state.mark(&Whole, axioms, names),
@@ -61,7 +61,7 @@ impl Pile {
         axioms: &mut [u8],
         names: &mut [u8],
     ) -> Cut
-        ensures { Cuts (standing state) (map step_of calls.now) (pile_kept (stack_of self)) (pile_repair (stack_of self)) (pile_rounds (stack_of self)) (PileLaws (stack_of self)) (record { axioms = axioms.entry.now; names = names.old }) axioms.exit.now names.new result }
+        ensures { Cuts (standing state) (map step_of calls.now) (pile_kept (stack_of self)) (pile_repair (stack_of self)) (pile_rounds (stack_of self)) (PileLaws (stack_of self)) (record { axioms = axioms.old; names = names.old }) axioms.new names.new result }
     {
         match self {
             Pile::Whole => state.mark_after(calls, &Whole, axioms, names),
@@ -80,8 +80,8 @@ impl Pile {
         names: &mut [u8],
         part: &mut [u8],
     ) -> Option<Result<usize, MarkFault>>
-        ensures gives { Delivers axioms.exit.now names.new part.new result (delivery (pile_kept (stack_of self)) (standing state.now) (record { axioms = axioms.entry.now; names = names.old; part = part.old })) }
-        ensures promise { DeliversPromised (standing state.now) (pile_kept (stack_of self)) (pile_repair (stack_of self)) (pile_rounds (stack_of self)) (PileLaws (stack_of self)) (record { axioms = axioms.entry.now; names = names.old; part = part.old }) axioms.exit.now names.new part.new result }
+        ensures gives { Delivers axioms.new names.new part.new result (delivery (pile_kept (stack_of self)) (standing state.now) (record { axioms = axioms.old; names = names.old; part = part.old })) }
+        ensures promise { DeliversPromised (standing state.now) (pile_kept (stack_of self)) (pile_repair (stack_of self)) (pile_rounds (stack_of self)) (PileLaws (stack_of self)) (record { axioms = axioms.old; names = names.old; part = part.old }) axioms.new names.new part.new result }
     {
         match self {
             Pile::Whole => state.write(&Whole, axioms, names, part),

@@ -14,8 +14,8 @@ impl State {
         axioms: &mut [u8],
         names: &mut [u8],
     ) -> Option<Result<Marking, MarkFault>>
-        ensures gives { Attempts axioms.exit.now names.new result (attempt (E.Extractor.kept pile.now) (E.Extractor.rounds pile.now) (standing self.now) (record { axioms = axioms.entry.now; names = names.old })) }
-        ensures promise { Promised (standing self.now) (E.Extractor.kept pile.now) (E.Extractor.repair pile.now) (E.Extractor.rounds pile.now) (E.Extractor.stages pile.now) (record { axioms = axioms.entry.now; names = names.old }) axioms.exit.now names.new result }
+        ensures gives { Attempts axioms.new names.new result (attempt (E.Extractor.kept pile.now) (E.Extractor.rounds pile.now) (standing self.now) (record { axioms = axioms.old; names = names.old })) }
+        ensures promise { Promised (standing self.now) (E.Extractor.kept pile.now) (E.Extractor.repair pile.now) (E.Extractor.rounds pile.now) (E.Extractor.stages pile.now) (record { axioms = axioms.old; names = names.old }) axioms.new names.new result }
     {
         match self {
             State::Draft(_) => None,
@@ -31,8 +31,8 @@ impl State {
         axioms: &mut [u8],
         names: &mut [u8],
     ) -> Option<Result<Marking, MarkFault>>
-        ensures gives { Attempts axioms.exit.now names.new result (attempt (stage_kept (T.LocalityTest.local stage.now.test) (E.Extractor.kept stage.now.below)) (stage_rounds (T.LocalityTest.local stage.now.test) (E.Extractor.kept stage.now.below) (E.Extractor.rounds stage.now.below)) (standing self.now) (record { axioms = axioms.entry.now; names = names.old })) }
-        ensures promise { Promised (standing self.now) (stage_kept (T.LocalityTest.local stage.now.test) (E.Extractor.kept stage.now.below)) (stage_mends (T.LocalityTest.local stage.now.test) (E.Extractor.kept stage.now.below) (T.LocalityTest.default stage.now.test) (E.Extractor.repair stage.now.below)) (stage_rounds (T.LocalityTest.local stage.now.test) (E.Extractor.kept stage.now.below) (E.Extractor.rounds stage.now.below)) (StagePromise (T.LocalityTest.local stage.now.test) (E.Extractor.kept stage.now.below) (E.Extractor.rounds stage.now.below) (E.Extractor.stages stage.now.below)) (record { axioms = axioms.entry.now; names = names.old }) axioms.exit.now names.new result }
+        ensures gives { Attempts axioms.new names.new result (attempt (stage_kept (T.LocalityTest.local stage.now.test) (E.Extractor.kept stage.now.below)) (stage_rounds (T.LocalityTest.local stage.now.test) (E.Extractor.kept stage.now.below) (E.Extractor.rounds stage.now.below)) (standing self.now) (record { axioms = axioms.old; names = names.old })) }
+        ensures promise { Promised (standing self.now) (stage_kept (T.LocalityTest.local stage.now.test) (E.Extractor.kept stage.now.below)) (stage_mends (T.LocalityTest.local stage.now.test) (E.Extractor.kept stage.now.below) (T.LocalityTest.default stage.now.test) (E.Extractor.repair stage.now.below)) (stage_rounds (T.LocalityTest.local stage.now.test) (E.Extractor.kept stage.now.below) (E.Extractor.rounds stage.now.below)) (StagePromise (T.LocalityTest.local stage.now.test) (E.Extractor.kept stage.now.below) (E.Extractor.rounds stage.now.below) (E.Extractor.stages stage.now.below)) (record { axioms = axioms.old; names = names.old }) axioms.new names.new result }
     {
         self.mark(stage, axioms, names)
     }

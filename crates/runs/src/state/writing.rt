@@ -15,8 +15,8 @@ impl State {
         names: &mut [u8],
         part: &mut [u8],
     ) -> Option<Result<usize, MarkFault>>
-        ensures gives { Delivers axioms.exit.now names.new part.new result (delivery (E.Extractor.kept pile.now) (standing self.now) (record { axioms = axioms.entry.now; names = names.old; part = part.old })) }
-        ensures promise { DeliversPromised (standing self.now) (E.Extractor.kept pile.now) (E.Extractor.repair pile.now) (E.Extractor.rounds pile.now) (E.Extractor.stages pile.now) (record { axioms = axioms.entry.now; names = names.old; part = part.old }) axioms.exit.now names.new part.new result }
+        ensures gives { Delivers axioms.new names.new part.new result (delivery (E.Extractor.kept pile.now) (standing self.now) (record { axioms = axioms.old; names = names.old; part = part.old })) }
+        ensures promise { DeliversPromised (standing self.now) (E.Extractor.kept pile.now) (E.Extractor.repair pile.now) (E.Extractor.rounds pile.now) (E.Extractor.stages pile.now) (record { axioms = axioms.old; names = names.old; part = part.old }) axioms.new names.new part.new result }
     {
         match self {
             State::Draft(_) => None,
