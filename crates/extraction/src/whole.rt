@@ -5,7 +5,6 @@ ghost use Rattle.extraction.specs.Listing.{set_of};
 ghost use Rattle.extraction.specs.Sets.{axiom_count, is_in_force, signature};
 ghost use Rattle.extraction.specs.Visits.{ListedTo};
 ghost use Rattle.extraction.specs.Repaired.{whole_meaning};
-ghost use Rattle.std.proofs.Common.{rules};
 
 use crate::extractor::Extractor;
 use crate::mentions::list_axiom;
@@ -40,7 +39,7 @@ impl Extractor for Whole {
 
     ghost means = { λ e b h. whole_meaning b };
 
-    ghost promises = { Prim.search rules };
+    ghost promises = { λ e b h. tt };
 
     fn extract(&self, book: &Book, tables: &mut Tables) -> u32 {
         tables.kept = axioms_in_force(book);
