@@ -9,7 +9,7 @@ trap 'rm -rf "$work"' EXIT
 
 # What is proved already is taken over, so that only the small library is checked.
 mkdir -p "$work/crates/misuse/src" || exit 2
-for crate in vocabulary terms codec book; do
+for crate in bounded vocabulary terms codec book; do
     cp -R "$root/crates/$crate" "$work/crates" || exit 2
     grep "^$crate:" "$root/crates.txt" >>"$work/crates.txt" || exit 2
 done

@@ -1,18 +1,18 @@
 -- What every book keeps, over the parts that it is made of, and how each call keeps it.
-use Rattle.std.proofs.Common.{◌≡◌, ℕ, zero, suc, ◌+◌, ◌<◌, ◌≤◌, Bool, true, false, cond, ◌&&◌, leb, List, [], ◌∷◌, ◌++◌, map, length, get_or, set, Some, None, Ok, Err, Option, Result, sym, refl, ap, ◌∙◌, subst, append_assoc, append-nil, arith}
+use Rattle.std.proofs.Common.{◌≡◌, ℕ, zero, suc, ◌+◌, ◌<◌, ◌≤◌, Bool, true, false, cond, ◌&&◌, leb, List, [], ◌∷◌, ◌++◌, map, length, get_or, set, Ok, Err, Result, sym, refl, ap, ◌∙◌, subst, append_assoc, append-nil, arith}
 use mathlib.Core.Logic.{∥∥₁_elim}
-use Rattle.std.specs.List.{AllByRecursion}
+use Rattle.std.specs.List.{AllByRecursion, list_all}
 use Rattle.std.proofs.ByRecursion.{All-get_or, All-set, All-push}
 use Rattle.std.proofs.lemmas.List.{map_push, take_all}
-use Rattle.std.proofs.lemmas.List.Sums.{sum_by_push, sum_by-cons}
+use Rattle.std.proofs.lemmas.List.Elements.{All-weaker}
+use Rattle.std.proofs.lemmas.List.Folds.{list_all-append}
+use Rattle.std.proofs.lemmas.List.Sums.{sum_by_push, sum_by-cons, AllPass-from_list_all, list_all-from_AllPass}
 use Rattle.std.proofs.lemmas.Bool.{and_parts, and_from, le-leb}
-use Rattle.vocabulary.specs.Lists.{every}
 use Rattle.vocabulary.specs.declared.fault.NameFault.{NameFault}
 use Rattle.vocabulary.specs.declared.fault.NameFault.TheVariants.{LabelTaken, TableFull}
 use Rattle.vocabulary.specs.declared.kind.Kind.{Kind}
 use Rattle.vocabulary.specs.declared.name.NameId.{NameId}
-use Rattle.vocabulary.specs.Kinds.{kind_of}
-use Rattle.vocabulary.specs.Entities.{Entity, reseed, labelling, held}
+use Rattle.vocabulary.specs.Entities.{Entity, reseed, kinding, labelling, held}
 use Rattle.vocabulary.specs.Naming.{naming, naming_with, accepted, refused, fresh}
 use Rattle.vocabulary.proofs.Kept.{reseed_kinds}
 use Rattle.terms.specs.declared.«axiom».AxiomKind.{AxiomKind}
@@ -33,28 +33,24 @@ pub record Whole (names : List Entity) (ts : List Term) (axioms : List Filed) (b
   pub tally : bytes ≡ bodies_length (map (filing ts) axioms)
   pub limit : bytes ≤ 32768
   pub sparse : length ts ≤ bytes
-  pub right : every (sound names) (map (filing ts) axioms) ≡ true
+  pub right : list_all (sound names) (map (filing ts) axioms) ≡ true
   pub firm : ∥ AllByRecursion (Firm ts) axioms ∥₁
 
 -- ---- names change, the axioms stay
 
-every_kept : {X : Type 0} (p q : X → Bool) → ((x : X) → p x ≡ true → q x ≡ true) → (xs : List X) → every p xs ≡ true → every q xs ≡ true
-every_kept p q h [] e = refl
-every_kept p q h (x ∷ xs) e = let s = and_parts (p x) (every p xs) e in and_from (q x) (every q xs) (h x s.0) (every_kept p q h xs s.1)
-
-every_push : {X : Type 0} (p : X → Bool) (xs : List X) (x : X) → every p xs ≡ true → p x ≡ true → every p (xs ++ x ∷ []) ≡ true
-every_push p [] x e h = and_from (p x) true h refl
-every_push p (y ∷ xs) x e h = let s = and_parts (p y) (every p xs) e in and_from (p y) (every p (xs ++ x ∷ [])) s.0 (every_push p xs x s.1 h)
+-- what each passes, each passes under a weaker test
+all_weaker : {X : Type 0} (p q : X → Bool) → ((x : X) → p x ≡ true → q x ≡ true) → (xs : List X) → list_all p xs ≡ true → list_all q xs ≡ true
+all_weaker p q h xs e = list_all-from_AllPass q xs (All-weaker (λ x. p x ≡ true) (λ x. q x ≡ true) h xs (AllPass-from_list_all p xs e))
 
 -- names are added
-pub right_grows : (names more : List Entity) (fs : List Filing) → every (sound names) fs ≡ true → every (sound (names ++ more)) fs ≡ true
-right_grows names more = every_kept (sound names) (sound (names ++ more)) (λ f e.
+pub right_grows : (names more : List Entity) (fs : List Filing) → list_all (sound names) fs ≡ true → list_all (sound (names ++ more)) fs ≡ true
+right_grows names more = all_weaker (sound names) (sound (names ++ more)) (λ f e.
     let s = and_parts (well_formed names f.states) (leb (body_length f) 512) e in
     and_from (well_formed (names ++ more) f.states) (leb (body_length f) 512) (well_grows names more f.states s.0) s.1)
 
 -- a name is seeded or unseeded
-pub right_reseed : (names : List Entity) (n : ℕ) (on : Bool) (fs : List Filing) → every (sound names) fs ≡ true → every (sound (reseed names n on)) fs ≡ true
-right_reseed names n on = every_kept (sound names) (sound (reseed names n on)) (λ f e.
+pub right_reseed : (names : List Entity) (n : ℕ) (on : Bool) (fs : List Filing) → list_all (sound names) fs ≡ true → list_all (sound (reseed names n on)) fs ≡ true
+right_reseed names n on = all_weaker (sound names) (sound (reseed names n on)) (λ f e.
     rw (well_same (reseed names n on) names (reseed_kinds names n on) f.states) e)
 
 -- ---- the table grows, the axioms stay
@@ -91,15 +87,10 @@ reforce_total [] k on = refl
 reforce_total (f ∷ fs) zero on = refl
 reforce_total (f ∷ fs) (suc k) on = sum_by-cons body_length f (reforce fs k on) ∙ ap (λ n. body_length f + n) (reforce_total fs k on) ∙ sym (sum_by-cons body_length f fs)
 
-reforce_right : (names : List Entity) (fs : List Filing) (k : ℕ) (on : Bool) → every (sound names) (reforce fs k on) ≡ every (sound names) fs
+reforce_right : (names : List Entity) (fs : List Filing) (k : ℕ) (on : Bool) → list_all (sound names) (reforce fs k on) ≡ list_all (sound names) fs
 reforce_right names [] k on = refl
 reforce_right names (f ∷ fs) zero on = refl
 reforce_right names (f ∷ fs) (suc k) on = ap (λ b. sound names f && b) (reforce_right names fs k on)
-
-pub reforce_length : (fs : List Filing) (k : ℕ) (on : Bool) → length (reforce fs k on) ≡ length fs
-reforce_length [] k on = refl
-reforce_length (f ∷ fs) zero on = refl
-reforce_length (f ∷ fs) (suc k) on = ap suc (reforce_length fs k on)
 
 pub reforced : {names : List Entity} {ts : List Term} {fs : List Filed} {bytes : ℕ} (k : ℕ) (f g : Filed) (on : Bool) → k < length fs → f ≡ get_or fs k f → g ≡ record { «axiom» = f.«axiom»; in_force = on } → Whole names ts fs bytes → Whole names ts (set fs k g) bytes
 reforced {names} {ts} {fs} {bytes} k f g on h e s w =
@@ -108,7 +99,7 @@ reforced {names} {ts} {fs} {bytes} k f g on h e s w =
       tally = w.tally ∙ sym (ap bodies_length same ∙ reforce_total (map (filing ts) fs) k on);
       limit = w.limit;
       sparse = w.sparse;
-      right = ap (every (sound names)) same ∙ reforce_right names (map (filing ts) fs) k on ∙ w.right;
+      right = ap (list_all (sound names)) same ∙ reforce_right names (map (filing ts) fs) k on ∙ w.right;
       firm = ∥∥₁_elim w.firm squash₁ (λ a. ∣ All-set (Firm ts) fs k g (subst (Firm ts) (sym s) (subst (Firm ts) (sym e) (All-get_or (Firm ts) fs k f h a))) a ∣₁);
     }
 
@@ -143,27 +134,23 @@ module _ {names : List Entity} {old new : List Term} {kind : AxiomKind} {body : 
         tally = ap (λ n. n + length body) w.tally ∙ ap (λ n. bodies_length (map (filing old) fs) + n) (sym (ap length is)) ∙ sym (ap bodies_length same ∙ sum_by_push body_length (map (filing old) fs) last);
         limit = fits;
         sparse = omega (arith, h.few, w.sparse);
-        right = ap (every (sound names)) same ∙ every_push (sound names) (map (filing old) fs) last w.right (and_from _ _ h.fits (le-leb (body_length last) 512 (omega (arith, ap length is))));
+        right = ap (list_all (sound names)) same ∙ list_all-append (sound names) (map (filing old) fs) (last ∷ []) ∙ and_from _ _ w.right (and_from _ _ (and_from _ _ h.fits (le-leb (body_length last) 512 (omega (arith, ap length is)))) refl);
         firm = ∥∥₁_elim w.firm squash₁ (λ a. ∣ All-push (Firm new) fs _ (subst (λ t. AllByRecursion (Firm t) fs) (sym h.begins.grown) (all_on old h.begins.more fs a)) (stands h true) ∣₁);
       }
-
--- nothing changed but for the name of the table
-pub whole_at : {names : List Entity} {ts later : List Term} {fs : List Filed} {bytes : ℕ} → later ≡ ts → Whole names ts fs bytes → Whole names later fs bytes
-whole_at {names} {ts} {later} {fs} {bytes} e w = subst (λ t. Whole names t fs bytes) (sym e) w
 
 pub whole_reseed : {names later : List Entity} {ts : List Term} {fs : List Filed} {bytes : ℕ} (n : ℕ) (on : Bool) → later ≡ reseed names n on → Whole names ts fs bytes → Whole later ts fs bytes
 whole_reseed {names} {later} {ts} {fs} {bytes} n on e w = record {
   tally = w.tally;
   limit = w.limit;
   sparse = w.sparse;
-  right = ap (λ ns. every (sound ns) (map (filing ts) fs)) e ∙ right_reseed names n on (map (filing ts) fs) w.right;
+  right = ap (λ ns. list_all (sound ns) (map (filing ts) fs)) e ∙ right_reseed names n on (map (filing ts) fs) w.right;
   firm = w.firm;
 }
 
 -- naming adds a name, or none
 grown_by_naming : (es : List Entity) (k : ℕ) (l : List ℕ) → (more : List Entity) × ((naming es k l).state ≡ es ++ more)
 unfolding naming
-grown_by_naming es k l = by_kind (kind_of k) (labelling l)
+grown_by_naming es k l = by_kind (kinding k) (labelling l)
   where
     none : es ≡ es ++ []
     none = sym (append-nil es)
@@ -173,10 +160,10 @@ grown_by_naming es k l = by_kind (kind_of k) (labelling l)
     by_held kind label false true = ([], none)
     by_held kind label false false = (fresh kind label ∷ [], refl)
 
-    by_kind : (o : Option Kind) (r : Result (List ℕ) NameFault) → (more : List Entity) × ((naming_with es o r).state ≡ es ++ more)
-    by_kind None r = ([], none)
-    by_kind (Some kind) (Err f) = ([], none)
-    by_kind (Some kind) (Ok label) = by_held kind label (held kind label es) (leb 1024 (length es))
+    by_kind : (o : Result Kind NameFault) (r : Result (List ℕ) NameFault) → (more : List Entity) × ((naming_with es o r).state ≡ es ++ more)
+    by_kind (Err f) r = ([], none)
+    by_kind (Ok kind) (Err f) = ([], none)
+    by_kind (Ok kind) (Ok label) = by_held kind label (held kind label es) (leb 1024 (length es))
 
 pub whole_naming : {names later : List Entity} {ts : List Term} {fs : List Filed} {bytes : ℕ} (k : ℕ) (l : List ℕ) → later ≡ (naming names k l).state → Whole names ts fs bytes → Whole later ts fs bytes
 whole_naming {names} {later} {ts} {fs} {bytes} k l e w =
@@ -185,16 +172,6 @@ whole_naming {names} {later} {ts} {fs} {bytes} k l e w =
       tally = w.tally;
       limit = w.limit;
       sparse = w.sparse;
-      right = ap (λ ns. every (sound ns) (map (filing ts) fs)) (e ∙ g.1) ∙ right_grows names g.0 (map (filing ts) fs) w.right;
+      right = ap (λ ns. list_all (sound ns) (map (filing ts) fs)) (e ∙ g.1) ∙ right_grows names g.0 (map (filing ts) fs) w.right;
       firm = w.firm;
     }
-
--- a book with nothing in it
-pub whole_empty : {names : List Entity} {ts : List Term} {fs : List Filed} → names ≡ [] → ts ≡ [] → fs ≡ [] → Whole names ts fs 0
-whole_empty {names} {ts} {fs} n t f = record {
-  tally = rw f refl;
-  limit = omega arith;
-  sparse = rw t (omega arith);
-  right = rw f refl;
-  firm = ∣ subst (AllByRecursion (Firm ts)) (sym f) tt ∣₁;
-}

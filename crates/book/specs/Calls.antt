@@ -1,5 +1,5 @@
 -- What each call does to a book's contents, and what it answers. A refused call changes nothing.
-use Rattle.std.specs.Prelude.{◌≡◌, ℕ, ◌+◌, Bool, true, cond, ◌&&◌, List, [], ◌∷◌, ◌++◌, map, length, Some, None, Ok, Err, vec_items, Option, Result, ◌==◌, nat_le, nat_lt}
+use Rattle.std.specs.Prelude.{◌≡◌, ℕ, ◌+◌, Bool, true, cond, ◌&&◌, List, [], ◌∷◌, ◌++◌, map, length, Some, None, Ok, Err, Option, Result, ◌==◌, nat_le, nat_lt}
 use Rattle.vocabulary.specs.declared.name.NameId.{NameId}
 use Rattle.vocabulary.specs.Entities.{reseed}
 use Rattle.vocabulary.specs.Naming.{Turn, accepted, refused, entities, naming}
@@ -18,7 +18,7 @@ use Rattle.book.specs.declared.fault.FileFault.TheVariants as File'
 use Rattle.book.specs.Contents.{Contents, filing, bodies_length, reforce}
 
 abbrev pub contents : Book → Contents
-contents b = record { names = entities b.names; axioms = map (filing (nodes_of b.terms)) (vec_items b.axioms) }
+contents b = record { names = entities b.names; axioms = map (filing (nodes_of b.terms)) b.axioms }
 
 -- a book with nothing in it
 abbrev pub empty : Contents

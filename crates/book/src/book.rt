@@ -1,23 +1,22 @@
-ghost use Rattle.std.specs.Prelude.{◌≡◌, ◌≤◌, true, map, length, vec_len, vec_capacity};
-ghost use Rattle.std.specs.List.{AllByRecursion};
-ghost use Rattle.vocabulary.specs.Lists.{every};
+ghost use Rattle.std.specs.Prelude.{◌≡◌, ◌≤◌, true, false, map, length, IfOk};
+ghost use Rattle.std.specs.List.{AllByRecursion, list_all};
 ghost use Rattle.vocabulary.specs.Naming.{entities};
 ghost use Rattle.terms.specs.Tables.{nodes_of};
 ghost use Rattle.book.specs.Contents.{filing, bodies_length, sound, Firm};
 
-use terms::{Axiom, Terms};
-use vocabulary::Vocabulary;
-
-mod contents;
-mod drafting;
-mod freezing;
+use crate::fault::{BookFault, FileFault};
+use bounded::Bounded;
+use codec::read_axiom;
+use std::alloc::{AllocError, Global};
+use terms::{Axiom, AxiomKind, Terms};
+use vocabulary::{NameId, Vocabulary};
 
 // The number of an axiom: how many were filed before it.
-#[derive(Clone, Copy)]
+#[derive(Clone, Copy, Debug, PartialEq, Eq, Hash)]
 pub struct AxiomId(pub u16);
 
 // An axiom of a book. Filing puts it in force, laying aside ends that, and restoring puts it in force anew.
-#[derive(Clone, Copy)]
+#[derive(Clone, Copy, Debug)]
 pub struct Filed {
     pub axiom: Axiom,
     pub in_force: bool,
@@ -29,15 +28,122 @@ pub struct Filed {
 pub struct Book {
     names: Vocabulary,
     terms: Terms,
-    axioms: Vec<Filed>,
+    axioms: Bounded<Filed, 1024>,
     bytes: usize,
-    ghost room: { 1024 ≤ vec_capacity axioms },
-    ghost few: { vec_len axioms ≤ 1024 },
-    ghost tally: { bytes ≡ bodies_length (map (filing (nodes_of terms)) axioms.items) },
+    // as the table's own invariant says; lemmas about books need it of the value
+    ghost few: { length axioms ≤ 1024 },
+    ghost tally: { bytes ≡ bodies_length (map (filing (nodes_of terms)) axioms) },
     ghost limit: { bytes ≤ 32768 },
     ghost sparse: { length (nodes_of terms) ≤ bytes },
-    ghost right: { every (sound (entities names)) (map (filing (nodes_of terms)) axioms.items) ≡ true },
-    ghost firm: { ∥ AllByRecursion (Firm (nodes_of terms)) axioms.items ∥₁ },
+    ghost right: { list_all (sound (entities names)) (map (filing (nodes_of terms)) axioms) ≡ true },
+    ghost firm: { ∥ AllByRecursion (Firm (nodes_of terms)) axioms ∥₁ },
+}
+
+impl Book {
+    ghost use Rattle.book.specs.Calls.{Gives, contents, empty, blank, naming_call, seeding_call, forcing_call, admission, obstacle_of};
+
+    // A book with nothing in it. All memory that it will ever need is claimed here.
+    fn new(heap: Global) -> Result<Book, AllocError>
+        ensures { IfOk result (λ b. contents b ≡ empty) }
+    {
+        Ok(Book {
+            names: Vocabulary::new(heap)?,
+            terms: Terms::new(heap)?,
+            axioms: Bounded::new(heap)?,
+            bytes: 0,
+        })
+    }
+
+    pub fn names(&self) -> &Vocabulary
+        ensures { result.now ≡ self.now.names }
+    {
+        &self.names
+    }
+
+    pub fn terms(&self) -> &Terms
+        ensures { result.now ≡ self.now.terms }
+    {
+        &self.terms
+    }
+
+    // The axioms in the order filed.
+    pub fn axioms(&self) -> &[Filed]
+        ensures { result.now ≡ self.now.axioms }
+    {
+        self.axioms.as_slice()
+    }
+
+    // Whether the book has no name and no axiom.
+    pub fn is_blank(&self) -> bool
+        ensures { result ≡ blank (contents self.now) }
+    {
+        self.names.count() == 0 && self.axioms.len() == 0
+    }
+
+    // Makes a name of a kind byte and a label, and answers its number.
+    fn name(&mut self, kind: u8, label: &[u8]) -> Result<NameId, BookFault>
+        ensures { Gives self.new result (naming_call (contents self.old) kind label.now) }
+    {
+        Ok(self.names.name(kind, label)?)
+    }
+
+    // Puts a name into the signature or takes it out.
+    fn set_seeded(&mut self, id: NameId, on: bool) -> Result<(), BookFault>
+        ensures { Gives self.new result (seeding_call (contents self.old) id.0 on) }
+    {
+        Ok(self.names.set_seeded(id, on)?)
+    }
+
+    // Puts an axiom in force, or lays it aside.
+    fn set_in_force(&mut self, id: AxiomId, on: bool) -> Result<(), BookFault>
+        ensures { Gives self.new result (forcing_call (contents self.old) id.0 on) }
+    {
+        let filed = self
+            .axioms
+            .get_mut(usize::from(id.0))
+            .ok_or(BookFault::NoSuchAxiom)?;
+        filed.in_force = on;
+        Ok(())
+    }
+
+    // What stands against an axiom whose items are right, where there are `count` axioms with `bytes` bytes together. A
+    // `Result` would be taken apart at once, since the axiom's nodes are dropped before the fault is answered.
+    fn obstacle(count: usize, bytes: usize, len: usize, end: usize) -> Option<BookFault>
+        requires len_bound { len ≤ 512 }
+        requires bytes_bound { bytes ≤ 32768 }
+        ensures { result ≡ obstacle_of count bytes len end }
+    {
+        if end < len {
+            Some(BookFault::LeftOver(end))
+        } else if count >= 1024 {
+            Some(BookFault::AxiomsFull)
+        } else if bytes + len > 32768 {
+            Some(BookFault::BytesFull)
+        } else {
+            None
+        }
+    }
+
+    // Files an axiom of a kind.
+    fn admit(&mut self, kind: AxiomKind, body: &[u8]) -> Result<AxiomId, BookFault>
+        requires { length body.now ≤ 512 }
+        ensures { Gives self.new result (admission (contents self.old) kind body.now) }
+    {
+        let before = self.terms.count();
+        let parsed = read_axiom(&mut self.terms, &self.names, kind, body).unwrap()?;
+        let count = self.axioms.len();
+        if let Some(fault) = Book::obstacle(count, self.bytes, body.len(), parsed.end) {
+            self.terms.truncate(before);
+            return Err(fault);
+        }
+        let filed = Filed {
+            axiom: parsed.axiom,
+            in_force: true,
+        };
+        let number = self.axioms.push(filed).unwrap();
+        self.bytes += body.len();
+        Ok(AxiomId(number as u16))
+    }
 }
 
 // A draft: a book that may be changed.
@@ -46,8 +152,106 @@ pub struct Draft {
     book: Book,
 }
 
+impl Draft {
+    ghost use Rattle.book.specs.Calls.{Gives, contents, empty, naming_call, seeding_call, forcing_call, filing_call, filing_of};
+
+    // An empty draft. All memory that the book will ever need is claimed here.
+    pub fn open(heap: Global) -> Result<Draft, AllocError>
+        ensures { IfOk result (λ d. contents d.book ≡ empty) }
+    {
+        Ok(Draft {
+            book: Book::new(heap)?,
+        })
+    }
+
+    // The book as it stands.
+    pub fn book(&self) -> &Book
+        ensures { result.now ≡ self.now.book }
+    {
+        &self.book
+    }
+
+    // Ends the drafting.
+    pub fn freeze(self) -> Frozen
+        ensures { result.book ≡ self.book }
+    {
+        let Draft { book } = self;
+        Frozen { book }
+    }
+
+    // Makes a name of a kind byte and a label, and answers its number. Any byte may be passed, since refusing it is this
+    // call's promise.
+    pub fn name(&mut self, kind: u8, label: &[u8]) -> Result<NameId, BookFault>
+        ensures { Gives self.new.book result (naming_call (contents self.old.book) kind label.now) }
+    {
+        self.book.name(kind, label)
+    }
+
+    // Puts a name into the signature.
+    pub fn seed(&mut self, id: NameId) -> Result<(), BookFault>
+        ensures { Gives self.new.book result (seeding_call (contents self.old.book) id.0 true) }
+    {
+        self.book.set_seeded(id, true)
+    }
+
+    // Takes a name out of the signature.
+    pub fn unseed(&mut self, id: NameId) -> Result<(), BookFault>
+        ensures { Gives self.new.book result (seeding_call (contents self.old.book) id.0 false) }
+    {
+        self.book.set_seeded(id, false)
+    }
+
+    // Lays an axiom aside: it is in force no more.
+    pub fn lay_aside(&mut self, id: AxiomId) -> Result<(), BookFault>
+        ensures { Gives self.new.book result (forcing_call (contents self.old.book) id.0 false) }
+    {
+        self.book.set_in_force(id, false)
+    }
+
+    // Puts an axiom that was laid aside in force again.
+    pub fn restore(&mut self, id: AxiomId) -> Result<(), BookFault>
+        ensures { Gives self.new.book result (forcing_call (contents self.old.book) id.0 true) }
+    {
+        self.book.set_in_force(id, true)
+    }
+
+    // Files an axiom of a record kind, 16 to 22, and answers its number; it is in force. Any number may be passed, since
+    // refusing it is this call's promise.
+    pub fn file(&mut self, kind: u16, body: &[u8]) -> Result<AxiomId, FileFault>
+        ensures { Gives self.new.book result (filing_call (contents self.old.book) kind body.now) }
+    {
+        let kind = AxiomKind::try_from(kind).map_err(|_| FileFault::UnknownKind)?;
+        self.file_axiom(kind, body)
+    }
+
+    // Files an axiom of a kind, and answers its number; it is in force.
+    pub fn file_axiom(&mut self, kind: AxiomKind, body: &[u8]) -> Result<AxiomId, FileFault>
+        ensures { Gives self.new.book result (filing_of (contents self.old.book) (Some kind) body.now) }
+    {
+        if body.len() > 512 {
+            return Err(FileFault::BodyTooLong);
+        }
+        Ok(self.book.admit(kind, body)?)
+    }
+}
+
 // A frozen book: it stays as it is until it is reopened.
 #[derive(Drop)]
 pub struct Frozen {
     book: Book,
+}
+
+impl Frozen {
+    pub fn book(&self) -> &Book
+        ensures { result.now ≡ self.now.book }
+    {
+        &self.book
+    }
+
+    pub fn reopen(self) -> Draft
+        ensures { result.book ≡ self.book }
+    {
+        let Frozen { book } = self;
+        Draft { book }
+    }
 }

@@ -1,13 +1,17 @@
-ghost use Rattle.std.specs.Prelude.{◌≡◌};
+ghost use Rattle.std.specs.Prelude.{◌≡◌, Some};
+ghost use Rattle.vocabulary.specs.Refusals.{reason_text};
 ghost use Rattle.book.specs.Refusals.{book_refusal, file_refusal};
 ghost use Rattle.book.specs.declared.fault.BookFault.TheVariants.{Item as OfItem, Name as OfName};
 ghost use Rattle.book.specs.declared.fault.FileFault.TheVariants.{Book as OfBook};
+ghost use Rattle.terms.specs.declared.fault.ItemFault.TheVariants.{WrongName as OfNumber};
 
+use std::error::Error;
+use std::fmt;
 use terms::ItemFault;
-use vocabulary::{Layer, NameFault, Refusal};
+use vocabulary::{Layer, NameFault, NoSuchName, Reason, Refusal};
 
 // Why a book refuses a call.
-#[derive(Clone, Copy)]
+#[derive(Clone, Copy, Debug, PartialEq, Eq, Hash)]
 pub enum BookFault {
     // an item of the body is faulty
     Item(ItemFault),
@@ -39,39 +43,48 @@ impl From<NameFault> for BookFault {
     }
 }
 
+// A number that no name has is a faulty item.
+impl From<NoSuchName> for BookFault {
+    ghost from_gives = { λ e r. r ≡ OfItem (OfNumber 0) };
+
+    fn from(_fault: NoSuchName) -> BookFault {
+        BookFault::Item(ItemFault::WrongName(0))
+    }
+}
+
 impl BookFault {
     pub fn refusal(self) -> Refusal
         ensures { result ≡ book_refusal self }
     {
-        match self {
-            BookFault::Item(fault) => fault.refusal(),
-            BookFault::Name(fault) => fault.refusal(),
-            BookFault::LeftOver(place) => Refusal {
-                number: 16,
-                layer: Layer::Book,
-                place,
-            },
-            BookFault::AxiomsFull => Refusal {
-                number: 17,
-                layer: Layer::Book,
-                place: 0,
-            },
-            BookFault::BytesFull => Refusal {
-                number: 18,
-                layer: Layer::Book,
-                place: 0,
-            },
-            BookFault::NoSuchAxiom => Refusal {
-                number: 19,
-                layer: Layer::Book,
-                place: 0,
-            },
+        let (reason, place) = match self {
+            BookFault::Item(fault) => return fault.refusal(),
+            BookFault::Name(fault) => return fault.refusal(),
+            BookFault::LeftOver(place) => (Reason::LeftOver, place),
+            BookFault::AxiomsFull => (Reason::AxiomsFull, 0),
+            BookFault::BytesFull => (Reason::BytesFull, 0),
+            BookFault::NoSuchAxiom => (Reason::NoSuchAxiom, 0),
+        };
+        Refusal {
+            reason,
+            layer: Layer::Book,
+            place,
         }
     }
 }
 
+impl fmt::Display for BookFault {
+    ghost output = { λ f. Some (reason_text (book_refusal f).reason) };
+
+    fn fmt<W: fmt::Write>(&self, f: &mut fmt::Formatter<W>) -> fmt::Result {
+        let reason = self.refusal().reason;
+        write!(f, "{reason}")
+    }
+}
+
+impl Error for BookFault {}
+
 // Why a record of a file, or a body that is filed, is refused.
-#[derive(Clone, Copy)]
+#[derive(Clone, Copy, Debug, PartialEq, Eq, Hash)]
 pub enum FileFault {
     // the book to load into has a name or an axiom
     NotEmpty,
@@ -98,28 +111,28 @@ impl FileFault {
     pub fn refusal(self) -> Refusal
         ensures { result ≡ file_refusal self }
     {
-        match self {
-            FileFault::NotEmpty => Refusal {
-                number: 1,
-                layer: Layer::File,
-                place: 0,
-            },
-            FileFault::CutShort => Refusal {
-                number: 2,
-                layer: Layer::File,
-                place: 0,
-            },
-            FileFault::UnknownKind => Refusal {
-                number: 3,
-                layer: Layer::File,
-                place: 0,
-            },
-            FileFault::BodyTooLong => Refusal {
-                number: 4,
-                layer: Layer::File,
-                place: 0,
-            },
-            FileFault::Book(fault) => fault.refusal(),
+        let reason = match self {
+            FileFault::NotEmpty => Reason::NotEmpty,
+            FileFault::CutShort => Reason::RecordCutShort,
+            FileFault::UnknownKind => Reason::UnknownKind,
+            FileFault::BodyTooLong => Reason::BodyTooLong,
+            FileFault::Book(fault) => return fault.refusal(),
+        };
+        Refusal {
+            reason,
+            layer: Layer::File,
+            place: 0,
         }
     }
 }
+
+impl fmt::Display for FileFault {
+    ghost output = { λ f. Some (reason_text (file_refusal f).reason) };
+
+    fn fmt<W: fmt::Write>(&self, f: &mut fmt::Formatter<W>) -> fmt::Result {
+        let reason = self.refusal().reason;
+        write!(f, "{reason}")
+    }
+}
+
+impl Error for FileFault {}

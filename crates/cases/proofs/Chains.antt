@@ -2,7 +2,7 @@
 use Rattle.std.proofs.Common.{◌≡◌, ℕ, zero, suc, ◌<◌, ◌≤◌, Bool, true, false, not, ◌&&◌, eqb, ltb, ◌≢◌, List, [], ◌∷◌, length, get_or, sym, refl, ap, ◌∙◌, subst, ⊎_elim, arith}
 use mathlib.Core.Path.{fun_ext}
 use Rattle.std.proofs.lemmas.Bool.{not-true, and_parts, or_from, and_left, ltb-true, eqb-true, eqb-false, ne_eqb, cases_lt}
-use Rattle.vocabulary.specs.Lists.{every}
+use Rattle.std.specs.List.{list_all}
 use Rattle.terms.specs.Forms.{Rule}
 use Rattle.book.specs.Contents.{Contents, Filing}
 use Rattle.locality.specs.Worlds.{Names}
@@ -38,7 +38,7 @@ agree_at (suc n) f g e k h =
 
 -- numbers below n, and so none from n on
 abbrev within : ℕ → List ℕ → Bool
-within n ks = every (λ k. ltb k n) ks
+within n ks = list_all (λ k. ltb k n) ks
 
 pub among_past : (n : ℕ) (ks : List ℕ) → within n ks ≡ true → (k : ℕ) → n ≤ k → among ks k ≡ false
 among_past n [] e k h = refl

@@ -4,14 +4,14 @@ use Rattle.vocabulary.specs.declared.kind.Kind.{Kind}
 use Rattle.vocabulary.specs.declared.kind.Kind.TheVariants.{Concept, Role, Individual}
 use Rattle.vocabulary.specs.declared.name.NameId.{NameId}
 use Rattle.vocabulary.specs.Entities.{Entity}
-use Rattle.vocabulary.specs.Lists.{any}
+use Rattle.std.specs.List.{list_any}
 use Rattle.terms.specs.declared.term.RoleItem.TheVariants.{Forward}
 use Rattle.terms.specs.Forms.{Rule, everything, concept, negation, exists, at_least, inclusion, transitive, member}
 use Rattle.book.specs.Contents.{Contents, Filing}
 
 -- k is one of the numbers
 abbrev pub among : List ℕ → ℕ → Bool
-among ks k = any (nat_eq k) ks
+among ks k = list_any (nat_eq k) ks
 
 abbrev pub relay : NameId
 relay = record { 0 = 0 }

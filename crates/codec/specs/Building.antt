@@ -4,6 +4,9 @@ use Rattle.std.specs.Prelude.{◌≡◌, ℕ, ◌+◌, ◌-◌, ◌≤◌, List,
 use Rattle.terms.specs.declared.fault.ItemFault.{ItemFault}
 use Rattle.terms.specs.declared.term.Term.{Term}
 use Rattle.terms.specs.Reading.{Outcome, got, bad}
+use Rattle.terms.specs.Tables.{nodes_of}
+use Rattle.vocabulary.specs.Entities.{Entity}
+use Rattle.codec.specs.declared.term_reader.TermReader.{TermReader}
 use Rattle.codec.specs.declared.reader.BodyReader.{BodyReader}
 use Rattle.codec.specs.Steps.{bytes, entities_of}
 
@@ -29,3 +32,13 @@ pub record Builds {X Y : Type 0} (means : List Term → X → Y) (before : BodyR
   pub begins : Begins old new
   pub frugal : length new + left after ≤ length old + left before
   pub reads : Reads means new r after.at read
+
+abbrev pub bytes_of : TermReader → List ℕ
+bytes_of r = bytes r.items
+
+abbrev pub names_of : TermReader → List Entity
+names_of r = entities_of r.items
+
+-- that, for a reader that holds its table
+abbrev pub Grows : {X Y : Type 0} → (List Term → X → Y) → TermReader → Result X ItemFault → TermReader → Outcome Y → Type 0
+Grows means before r after read = Builds means before.items (nodes_of before.terms.now) r after.items (nodes_of after.terms.now) read

@@ -1,9 +1,8 @@
 // Reads the bodies of axioms.
 #![tactic(auto)]
 
-mod items;
-mod nested;
 mod parsed;
 mod reader;
+mod term_reader;
 
 pub use parsed::{Parsed, read_axiom};

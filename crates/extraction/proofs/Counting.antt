@@ -1,37 +1,73 @@
 -- Counting and writing flags one after the other.
-use Rattle.std.proofs.Common.{◌≡◌, ℕ, zero, suc, ◌+◌, ◌<◌, ◌≤◌, Bool, true, false, cond, not, List, [], ◌∷◌, length, set, sym, refl, ap, ◌∙◌, add-one, arith}
+use Rattle.std.proofs.Common.{◌≡◌, ℕ, zero, suc, ◌+◌, ◌<◌, ◌≤◌, Bool, true, false, cond, not, ◌&&◌, ◌||◌, map, List, [], ◌∷◌, length, get_or, set, take, ◌-◌, length-take-le, ap₂, sym, refl, ap, ◌∙◌, add-one, arith}
 use mir.Val.{bool_byte}
-use Rattle.std.proofs.lemmas.Bool.{cond-true, cond-false, or_from}
+use Rattle.std.proofs.lemmas.Bool.{both_ways}
+use Rattle.std.specs.List.{list_any, count_by}
 use Rattle.locality.specs.Meaning.{some_below, count_below}
-use Rattle.extraction.specs.Marking.{bit, overwritten}
-use Rattle.extraction.specs.Below.{some_from, count_most}
+use Rattle.extraction.specs.Marking.{bit, by_number, overwritten}
+use lib.ListN.{length-map}
+use Rattle.std.proofs.lemmas.List.Recursion.{is_count_by}
+use Rattle.vocabulary.specs.declared.name.Name.{Name}
+use Rattle.vocabulary.specs.Entities.{Entity, entity}
+use Rattle.book.specs.Contents.{Contents}
+use Rattle.std.proofs.lemmas.List.{get_or-take}
+use Rattle.locality.specs.Tables.{listed_in}
+use Rattle.extraction.specs.declared.tables.Tables.{Tables}
+use Rattle.extraction.specs.Tallying.{ListsSeeded}
+use Rattle.extraction.specs.Below.{some_same, count_same}
+use Rattle.extraction.specs.Listing.{set_of}
+use Rattle.extraction.specs.Sets.{no_entity, name_count, names_in, outsiders, signature}
+use Rattle.extraction.proofs.Filling.{flags_of_names}
 
-module _ (p : ℕ → Bool) (n : ℕ) where
-  next_count : count_below (n + 1) p ≡ cond (p n) 1 0 + count_below n p
-  next_count = rw add-one refl
+-- the first number apart from the others
+first_some : (n : ℕ) (p : ℕ → Bool) → some_below (suc n) p ≡ (p 0 || some_below n (λ k. p (suc k)))
+first_some zero p = refl
+first_some (suc n) p = ap (λ t. p (suc n) || t) (first_some n p) ∙ swap (p (suc n)) (p 0) _
+  where
+    swap : (a b c : Bool) → (a || (b || c)) ≡ (b || (a || c))
+    swap true true c = refl
+    swap true false c = refl
+    swap false b c = refl
 
-  -- the next number passes, or fails
-  pub count_hit : (c : ℕ) → p n ≡ true → c ≡ count_below n p → c + 1 ≡ count_below (n + 1) p
-  count_hit c e h = let one = cond-true {A = ℕ} (p n) 1 0 e in omega (arith, next_count)
+first_count : (n : ℕ) (p : ℕ → Bool) → count_below (suc n) p ≡ cond (p 0) 1 0 + count_below n (λ k. p (suc k))
+first_count zero p = refl
+first_count (suc n) p = let rest = first_count n p in omega arith
 
-  pub count_miss : (c : ℕ) → p n ≡ false → c ≡ count_below n p → c ≡ count_below (n + 1) p
-  count_miss c e h = let none = cond-false {A = ℕ} (p n) 1 0 e in omega (arith, next_count)
+module _ {X : Type 0} (test : X → Bool) where
+  -- some number passes where some item does
+  pub some_listed : (xs : List X) → some_below (length xs) (set_of (map test xs)) ≡ list_any test xs
+  some_listed [] = refl
+  some_listed (x ∷ xs) = first_some (length xs) (set_of (map test (x ∷ xs))) ∙ ap (λ t. test x || t) (some_listed xs)
 
-  -- a count of some of the numbers below 1,024
-  pub count_few : (c : ℕ) → n ≤ 1024 → c ≡ count_below n p → c ≤ 1024
-  count_few c l h = let most = count_most n p in omega arith
+  -- as many numbers pass as items do
+  pub count_listed : (xs : List X) → count_by test xs ≡ count_below (length xs) (set_of (map test xs))
+  count_listed xs = sym (is_count_by (λ l. count_below (length l) (set_of (map test l))) test refl (λ x l. first_count (length l) (set_of (map test (x ∷ l))) ∙ one_or_none (test x) _) xs)
+    where
+      one_or_none : (t : Bool) (n : ℕ) → cond t 1 0 + n ≡ cond t (1 + n) n
+      one_or_none true n = refl
+      one_or_none false n = omega arith
 
-  -- no number passes so far
-  pub none_more : p n ≡ false → some_below n p ≡ false → some_below (n + 1) p ≡ false
-  none_more e h = rw add-one (or_from (p n) _ e h)
+-- a set of flags is what its flags say
+pub count_flagged : (flags : List Bool) → count_by (λ f. f) flags ≡ count_below (length flags) (set_of flags)
+count_flagged flags = count_listed (λ f. f) flags ∙ ap (λ l. count_below (length flags) (set_of l)) (map_id flags)
+  where
+    map_id : (l : List Bool) → map (λ f. f) l ≡ l
+    map_id [] = refl
+    map_id (f ∷ fs) = ap (λ t. f ∷ t) (map_id fs)
 
--- one passes, so it is not that none does
-pub found_one : (p : ℕ → Bool) (n m : ℕ) → n < m → p n ≡ true → false ≡ not (some_below m p)
-found_one p n m l e = sym (ap not (some_from m p n l e))
-
--- none does
-pub found_none : (p : ℕ → Bool) (n m : ℕ) → n ≡ m → some_below n p ≡ false → true ≡ not (some_below m p)
-found_none p n m e h = sym (ap not (ap (λ i. some_below i p) (sym e) ∙ h))
+-- what is in a set and not in a part of it
+pub count_without : (n : ℕ) (s t : ℕ → Bool) → ((k : ℕ) → t k ≡ true → s k ≡ true) → count_below n (λ k. s k && not (t k)) + count_below n t ≡ count_below n s
+count_without zero s t h = refl
+count_without (suc n) s t h =
+    let rest = count_without n s t h in
+    let here = one (s n) (t n) (h n) in
+    omega arith
+  where
+    one : (a b : Bool) → (b ≡ true → a ≡ true) → cond (a && not b) 1 0 + cond b 1 0 ≡ cond a 1 0
+    one true true g = refl
+    one true false g = refl
+    one false true g = absurd (both_ways false refl (g refl))
+    one false false g = refl
 
 -- one byte more is written
 pub overwritten_more : (n : ℕ) (s : ℕ → Bool) (bytes : List ℕ) → n < length bytes → set (overwritten n s bytes) n (bit (s n)) ≡ overwritten (n + 1) s bytes
@@ -42,12 +78,46 @@ overwritten_more n s bytes h = go n s bytes h ∙ sym (rw add-one refl)
     go zero s (x ∷ bytes) h = refl
     go (suc n) s (x ∷ bytes) h = ap (λ l. bit (s 0) ∷ l) (go n (λ k. s (suc k)) bytes (omega arith))
 
-pub overwritten_length : (n : ℕ) (s : ℕ → Bool) (bytes : List ℕ) → length (overwritten n s bytes) ≡ length bytes
-overwritten_length zero s bytes = refl
-overwritten_length (suc n) s [] = refl
-overwritten_length (suc n) s (x ∷ bytes) = ap suc (overwritten_length n (λ k. s (suc k)) bytes)
+overwritten_alike : (n : ℕ) (s t : ℕ → Bool) (bytes : List ℕ) → ((k : ℕ) → k < n → s k ≡ t k) → overwritten n s bytes ≡ overwritten n t bytes
+overwritten_alike zero s t bytes h = refl
+overwritten_alike (suc n) s t [] h = refl
+overwritten_alike (suc n) s t (x ∷ bytes) h = ap₂ (λ f l. bit f ∷ l) (h 0 (omega arith)) (overwritten_alike n _ _ bytes (λ k l. h (suc k) (omega arith)))
 
 -- the byte of a flag
 pub flag_byte : (t : Bool) → bool_byte t ≡ bit t
 flag_byte true = refl
 flag_byte false = refl
+
+module _ (b : Contents) (ns : List Name) (e : map entity ns ≡ b.names) where
+  seeded_at : (k : ℕ) → set_of (map (λ n. n.seeded) ns) k ≡ by_number (signature b) k
+  seeded_at k = flags_of_names ns k ∙ ap (λ (es : List Entity). (get_or es k no_entity).seeded) e
+
+  all_names : length ns ≡ name_count b
+  all_names = sym (length-map ns entity) ∙ ap length e
+
+  -- whether a name is seeded, and how many are
+  pub seeded_some : list_any (λ n. n.seeded) ns ≡ some_below (name_count b) (by_number (signature b))
+  seeded_some = sym (some_listed (λ n. n.seeded) ns) ∙ some_same _ _ _ _ all_names (λ k l. seeded_at k)
+
+  pub seeded_count : count_by (λ n. n.seeded) ns ≡ names_in b (signature b)
+  seeded_count = count_listed (λ n. n.seeded) ns ∙ count_same _ _ _ _ all_names (λ k l. seeded_at k)
+
+-- the first flags of a table, counted and written as far as they go
+module _ (flags : List Bool) (n : ℕ) (h : n ≤ length flags) where
+  all_taken : length (take n flags) ≡ n
+  all_taken = length-take-le n flags h
+
+  taken_at : (k : ℕ) → k < n → set_of (take n flags) k ≡ set_of flags k
+  taken_at k l = get_or-take n flags k false l
+
+  pub count_taken : count_below (length (take n flags)) (set_of (take n flags)) ≡ count_below n (set_of flags)
+  count_taken = count_same _ _ _ _ all_taken taken_at
+
+  pub overwritten_taken : (bytes : List ℕ) → overwritten (length (take n flags)) (set_of (take n flags)) bytes ≡ overwritten n (set_of flags) bytes
+  overwritten_taken bytes = ap (λ m. overwritten m (set_of (take n flags)) bytes) all_taken ∙ overwritten_alike n _ _ bytes taken_at
+
+-- the names that are listed and not seeded
+pub drawn_without : (b : Contents) (t : Tables) (closed seeded : ℕ) → ListsSeeded b t → closed ≡ count_below (name_count b) (set_of t.closed) → seeded ≡ names_in b (signature b) → (seeded ≤ closed) × (closed - seeded ≡ names_in b (outsiders b (listed_in t.closed)))
+drawn_without b t closed seeded lists c s =
+    let all = count_without (name_count b) (set_of t.closed) (by_number (signature b)) lists in
+    (omega arith, omega arith)

@@ -1,18 +1,18 @@
 -- Filling a table of flags from its first on.
-use Rattle.std.proofs.Common.{◌≡◌, ℕ, zero, suc, ◌+◌, ◌<◌, Bool, true, false, ◌&&◌, ltb, List, [], ◌∷◌, map, length, get_or, set, replicate, vec_items, Option, unwrap_or, sym, refl, ap, ◌∙◌, ap₂, ⊎_elim, arith, length-set, get_or-set_other, get_or-set_same}
+use Rattle.std.proofs.Common.{◌≡◌, ℕ, zero, suc, ◌+◌, ◌<◌, Bool, true, false, ◌&&◌, ltb, List, [], ◌∷◌, map, length, get_or, set, replicate, sym, refl, ap, ◌∙◌, ap₂, ⊎_elim, arith, length-set, get_or-set_other, get_or-set_same}
 use mathlib.Core.Path.{fun_ext}
 use lib.ListN.{length-map, get_or-eq_default}
 use Rattle.std.proofs.lemmas.Bool.{both_ways, cases_Bool, cases_lt, cases_order, lt-ltb, le-ltb}
-use Rattle.std.specs.Option.{option_map}
-use Rattle.vocabulary.specs.Entities.{Entity, entity_at}
+use Rattle.vocabulary.specs.Entities.{entity}
+use Rattle.vocabulary.specs.declared.name.Name.{Name}
 use Rattle.terms.specs.Tables.{nodes_of}
 use Rattle.book.specs.declared.book.Book.{Book}
 use Rattle.book.specs.declared.book.Filed.{Filed}
 use Rattle.book.specs.Calls.{contents}
-use Rattle.book.specs.Contents.{Contents, filing}
+use Rattle.book.specs.Contents.{filing}
 use Rattle.terms.specs.declared.term.Term.{Term}
 use Rattle.extraction.specs.Listing.{set_of, FilledTo}
-use Rattle.extraction.specs.Sets.{Marks, no_filing, no_entity, axiom_count, name_count, signature}
+use Rattle.extraction.specs.Sets.{Marks, no_filing, no_entity, axiom_count}
 
 -- a table of false flags holds nothing
 pub blank_none : (n k : ℕ) → set_of (replicate n false) k ≡ false
@@ -47,15 +47,26 @@ fill_done flags i s all so = fun_ext (λ k. so.flag k ∙ ⊎_elim (λ e. ap₂ 
     none true b e = e
     none false b e = refl
 
--- whether the name that was found at a number is seeded
-pub seeded_found : (es : List Entity) (n : ℕ) (o : Option Entity) → o ≡ entity_at es n → unwrap_or (option_map (λ e. e.seeded) o) false ≡ (get_or es n no_entity).seeded
-seeded_found [] n o h = ap (λ x. unwrap_or (option_map (λ (e : Entity). e.seeded) x) false) h
-seeded_found (e ∷ es) zero o h = ap (λ x. unwrap_or (option_map (λ (e : Entity). e.seeded) x) false) h
-seeded_found (e ∷ es) (suc n) o h = seeded_found es n o h
+-- the flag that comes next is the one of its item
+pub flag_at : {X : Type 0} (p : X → Bool) (xs : List X) (k : ℕ) (d : X) → k < length xs → set_of (map p xs) k ≡ p (get_or xs k d)
+flag_at p [] k d h = absurd (omega arith)
+flag_at p (x ∷ xs) zero d h = refl
+flag_at p (x ∷ xs) (suc k) d h = flag_at p xs k d (omega arith)
 
--- a name that is seeded is one of the names
-pub seeded_below : (b : Contents) (n : ℕ) → signature b (record { 0 = n }) ≡ true → n < name_count b
-seeded_below b n h = ⊎_elim (λ l. l) (λ l. absurd (both_ways _ refl (sym (ap (λ e. e.seeded) (get_or-eq_default b.names no_entity l)) ∙ h))) (cases_lt n (name_count b))
+-- no item is chosen past the last
+pub flags_below : (flags : List Bool) (k : ℕ) → set_of flags k ≡ true → k < length flags
+flags_below flags k h = ⊎_elim (λ l. l) (λ l. absurd (both_ways _ refl (sym (get_or-eq_default flags false l) ∙ h))) (cases_lt k (length flags))
+
+-- the flags of a list, read off its view as a set
+pub flags_of_names : (ns : List Name) (k : ℕ) → set_of (map (λ n. n.seeded) ns) k ≡ (get_or (map entity ns) k no_entity).seeded
+flags_of_names [] k = refl
+flags_of_names (n ∷ ns) zero = refl
+flags_of_names (n ∷ ns) (suc k) = flags_of_names ns k
+
+pub flags_of_axioms : (ts : List Term) (xs : List Filed) (k : ℕ) → set_of (map (λ f. f.in_force) xs) k ≡ (get_or (map (filing ts) xs) k no_filing).in_force
+flags_of_axioms ts [] k = refl
+flags_of_axioms ts (x ∷ xs) zero = refl
+flags_of_axioms ts (x ∷ xs) (suc k) = flags_of_axioms ts xs k
 
 -- an axiom in the book's list, and what it states and whether it is in force
 pub filed_at : (ts : List Term) (xs : List Filed) (k : ℕ) (d : Filed) → k < length xs → get_or (map (filing ts) xs) k no_filing ≡ filing ts (get_or xs k d)
@@ -64,5 +75,5 @@ filed_at ts (x ∷ xs) zero d h = refl
 filed_at ts (x ∷ xs) (suc k) d h = filed_at ts xs k d (omega arith)
 
 -- how many axioms the book's list has
-pub axioms_number : (b : Book) → axiom_count (contents b) ≡ length (vec_items b.axioms)
-axioms_number b = length-map (vec_items b.axioms) (filing (nodes_of b.terms))
+pub axioms_number : (b : Book) → axiom_count (contents b) ≡ length b.axioms
+axioms_number b = length-map b.axioms (filing (nodes_of b.terms))

@@ -1,5 +1,5 @@
 -- Going through the axioms of a book.
-use Rattle.std.proofs.Common.{◌≡◌, ℕ, ◌+◌, ◌<◌, ◌≤◌, Bool, true, false, ◌&&◌, ◌||◌, eqb, ltb, List, length, get_or, set, vec_items, sym, refl, ap, ◌∙◌, ap₂, ⊎_elim, add-one, arith, length-set, get_or-set_other, get_or-set_same}
+use Rattle.std.proofs.Common.{◌≡◌, ℕ, ◌+◌, ◌<◌, ◌≤◌, Bool, true, false, ◌&&◌, ◌||◌, eqb, ltb, List, length, get_or, set, sym, refl, ap, ◌∙◌, ap₂, ⊎_elim, add-one, arith, length-set, get_or-set_other, get_or-set_same}
 use mathlib.Core.Path.{fun_ext}
 use lib.ListN.{length-map}
 use Rattle.std.proofs.lemmas.Bool.{cases_eq, cases_order, eq-eqb, ne_eqb, and_right, and_from, or_right, lt-ltb, le-ltb}
@@ -29,12 +29,12 @@ or_none false = refl
 -- every name in an axiom of a book has a flag in a table
 pub rule_room : (b : Book) (k : ℕ) (n : NameId) → in_rule (rule_at (contents b) k) n ≡ true → n.0 < 1024
 rule_room b k n h =
-    omega (arith, rule_names (contents b) b.right k n h, length-map (vec_items b.names.names) entity, b.names.few)
+    omega (arith, rule_names (contents b) b.right k n h, length-map b.names.names entity, b.names.few)
 
 -- the axiom that stands at a number
-pub rule_at_number : (b : Book) (items : List Filed) (ts : Terms) (k : ℕ) (d : Filed) → items ≡ vec_items b.axioms → ts ≡ b.terms → k < length items → rule (nodes_of ts) (get_or items k d).«axiom» ≡ rule_at (contents b) k
+pub rule_at_number : (b : Book) (items : List Filed) (ts : Terms) (k : ℕ) (d : Filed) → items ≡ b.axioms → ts ≡ b.terms → k < length items → rule (nodes_of ts) (get_or items k d).«axiom» ≡ rule_at (contents b) k
 rule_at_number b items ts k d at table h =
-    ap₂ (λ xs t. rule (nodes_of t) (get_or xs k d).«axiom») at table ∙ sym (ap (λ f. f.states) (filed_at (nodes_of b.terms) (vec_items b.axioms) k d (rw (sym at) h)))
+    ap₂ (λ xs t. rule (nodes_of t) (get_or xs k d).«axiom») at table ∙ sym (ap (λ f. f.states) (filed_at (nodes_of b.terms) b.axioms k d (rw (sym at) h)))
 
 module _ (b : Contents) (chosen : Marks) (before : Names) where
   -- no axiom yet
@@ -68,7 +68,7 @@ module _ (b : Contents) (chosen : Marks) (before : Names) where
   }
 
 -- the loop has come to the end
-pub all_visited : (b : Book) (items : List Filed) (i : ℕ) → items ≡ vec_items b.axioms → i ≤ length items → length items ≤ i → i ≡ axiom_count (contents b)
+pub all_visited : (b : Book) (items : List Filed) (i : ℕ) → items ≡ b.axioms → i ≤ length items → length items ≤ i → i ≡ axiom_count (contents b)
 all_visited b items i at most least = omega (arith, axioms_number b, ap length at)
 
 pub list_all : (b : Contents) (chosen : Marks) (before : Names) (i j : ℕ) (xs : List Bool) → i ≡ j → ListedTo b i chosen before xs → ListedTo b j chosen before xs
@@ -100,15 +100,6 @@ or_assoc true b c = refl
 or_assoc false b c = refl
 
 module _ (b : Contents) (chosen marked : Marks) (before : Names) where
-  -- no axiom yet
-  pub mark_start : (kept xs : List Bool) → length kept ≡ 1024 → length xs ≡ 1024 → marked ≡ set_of kept → before ≡ listed_in xs → MarkedTo b 0 chosen marked before kept xs false
-  mark_start kept xs l m axioms names = record {
-    room = l;
-    axioms = λ k. sym (ap (λ f. f k) axioms) ∙ sym (or_none (marked k)) ∙ ap (λ t. marked k || (t && chosen k)) (sym (le-ltb k 0 (omega arith)));
-    names = list_start b chosen before xs m names;
-    some = refl;
-  }
-
   -- the axiom that is next is not marked yet, unless it was from the beginning
   pub mark_at : (i : ℕ) (kept xs : List Bool) (any : Bool) → MarkedTo b i chosen marked before kept xs any → set_of kept i ≡ marked i
   mark_at i kept xs any so = so.axioms i ∙ ap (λ t. marked i || (t && chosen i)) (le-ltb i i (omega arith)) ∙ or_none (marked i)

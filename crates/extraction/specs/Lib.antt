@@ -16,3 +16,5 @@ pub mod Names
 pub mod Runs
 pub mod Steady
 pub mod Limits
+pub mod Tallying
+pub mod PileMeaning

@@ -1,5 +1,6 @@
 -- What marking answers, and what it writes into its two buffers.
 use Rattle.std.specs.Prelude.{◌≡◌, ℕ, zero, suc, Bool, true, false, cond, not, ◌||◌, List, [], ◌∷◌, length, Result, nat_lt}
+use Rattle.vocabulary.specs.declared.refusal.Reason.TheVariants as Reason'
 use Rattle.vocabulary.specs.declared.refusal.Refusal.{Refusal}
 use Rattle.vocabulary.specs.Naming.{Turn, accepted, refused}
 use Rattle.vocabulary.specs.Refusals.{of_book}
@@ -67,5 +68,5 @@ pub record MarksAs (axioms names : List ℕ) (r : Result Marking MarkFault) (tur
   pub answer : r ≡ turn.answer
 
 abbrev pub mark_refusal : MarkFault → Refusal
-mark_refusal EmptySignature = of_book 20 0
-mark_refusal ShortBuffer = of_book 21 0
+mark_refusal EmptySignature = of_book Reason'.EmptySignature 0
+mark_refusal ShortBuffer = of_book Reason'.ShortBuffer 0

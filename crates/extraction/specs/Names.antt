@@ -8,7 +8,7 @@ use Rattle.vocabulary.specs.declared.kind.Kind.{Kind}
 use Rattle.vocabulary.specs.declared.kind.Kind.TheVariants.{Concept, Role, Individual}
 use Rattle.vocabulary.specs.declared.name.NameId.{NameId}
 use Rattle.vocabulary.specs.Entities.{Entity}
-use Rattle.vocabulary.specs.Lists.{every}
+use Rattle.std.specs.List.{list_all}
 use Rattle.terms.specs.declared.term.RoleItem.{RoleItem}
 use Rattle.terms.specs.declared.term.RoleItem.TheVariants.{Forward, Inverse}
 use Rattle.terms.specs.Forms.{Form, Rule, nothing, everything, concept, just, negation, both, exists, at_least, inclusion, equivalence, role_inclusion, transitive, functional, member, related}
@@ -27,7 +27,7 @@ module _ {X : Type 0} (p : X → Bool) (d : X) where
       ⊎_elim (λ l. l) (λ l. absurd (both_ways _ fails (sym (ap p (get_or-eq_default xs d l)) ∙ h))) (cases_lt k (length xs))
 
   -- what every element and the default pass, whatever stands at a number passes
-  at_every : p d ≡ true → (xs : List X) → every p xs ≡ true → (k : ℕ) → p (slice_index_or xs k d) ≡ true
+  at_every : p d ≡ true → (xs : List X) → list_all p xs ≡ true → (k : ℕ) → p (slice_index_or xs k d) ≡ true
   at_every passes [] h k = passes
   at_every passes (x ∷ xs) h zero = (and_parts (p x) _ h).0
   at_every passes (x ∷ xs) h (suc k) = at_every passes xs (and_parts (p x) _ h).1 k

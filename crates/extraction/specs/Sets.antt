@@ -2,7 +2,7 @@
 use Rattle.std.specs.Prelude.{◌≡◌, ℕ, Bool, true, false, not, ◌&&◌, ◌||◌, [], length, slice_index_or}
 use Rattle.vocabulary.specs.declared.kind.Kind.TheVariants as Kind'
 use Rattle.vocabulary.specs.Entities.{Entity}
-use Rattle.vocabulary.specs.Lists.{every}
+use Rattle.std.specs.List.{list_all}
 use Rattle.terms.specs.Forms.{Rule, nothing, inclusion}
 use Rattle.book.specs.Contents.{Contents, Filing, sound}
 use Rattle.locality.specs.Meaning.{some_below, count_below}
@@ -24,7 +24,7 @@ no_entity = record { kind = Kind'.Concept; label = []; seeded = false }
 -- in every book each number in an axiom belongs to a name of the kind wanted there, each count is at least 1, and no
 -- body is too long
 abbrev pub Sound : Contents → Type 0
-Sound b = every (sound b.names) b.axioms ≡ true
+Sound b = list_all (sound b.names) b.axioms ≡ true
 
 module _ (b : Contents) where
   -- how many axioms and how many names there are

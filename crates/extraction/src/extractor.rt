@@ -12,6 +12,8 @@ use book::Book;
 // An extractor chooses among the axioms in force of a book those that it keeps. What it means is settled by the book's
 // contents: the kept set, how it repairs worlds, and how many rounds it counts. A pile is an extractor with stages on top
 // of each other over it, or with none; what is said of a pile is said of its uppermost extractor.
+//
+// The four members are apart, and no one record, since a clause names those that it speaks of.
 pub trait Extractor {
     ghost kept: { Self → Contents → Marks };
 

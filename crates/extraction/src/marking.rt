@@ -1,11 +1,25 @@
 // Marking a frozen book.
-mod calls;
+ghost use Rattle.std.specs.List.{list_any};
+ghost use Rattle.std.specs.Prelude.{◌≡◌, ◌≤◌, Some, length};
+ghost use Rattle.vocabulary.specs.Refusals.{reason_text};
+ghost use Rattle.book.specs.Calls.{contents};
+ghost use Rattle.locality.specs.Meaning.{count_below};
+ghost use Rattle.extraction.specs.Extractors.{Meaning};
+ghost use Rattle.extraction.specs.Listing.{set_of};
+ghost use Rattle.extraction.specs.Marking.{MarksAs, unseeded, overwritten, marking};
+ghost use Rattle.extraction.specs.Sets.{axiom_count, name_count, names_in, signature};
+ghost use Rattle.extraction.specs.Tallying.{ListsSeeded, Tallies};
 
-pub use calls::mark;
+use crate::extractor::Extractor;
+use crate::tables::Tables;
+use book::{Book, Frozen};
+use std::error::Error;
+use std::fmt;
+use vocabulary::{Layer, Name, Reason, Refusal};
 
 // What marking answers: how many axioms are marked, how many names the closed signature has, how many of them are drawn
 // in, that is, outside the signature, and the rounds.
-#[derive(Clone, Copy)]
+#[derive(Clone, Copy, Debug, PartialEq, Eq, Hash)]
 pub struct Marking {
     pub marked: usize,
     pub closed: usize,
@@ -14,10 +28,131 @@ pub struct Marking {
 }
 
 // Why marking, or writing what was marked, is refused.
-#[derive(Clone, Copy)]
+#[derive(Clone, Copy, Debug, PartialEq, Eq, Hash)]
 pub enum MarkFault {
     // no name is seeded
     EmptySignature,
     // a buffer has fewer bytes than what is to be written into it
     ShortBuffer,
+}
+
+impl MarkFault {
+    ghost use Rattle.extraction.specs.Marking.{mark_refusal};
+
+    pub fn refusal(self) -> Refusal
+        ensures { result ≡ mark_refusal self }
+    {
+        let reason = match self {
+            MarkFault::EmptySignature => Reason::EmptySignature,
+            MarkFault::ShortBuffer => Reason::ShortBuffer,
+        };
+        Refusal {
+            reason,
+            layer: Layer::Book,
+            place: 0,
+        }
+    }
+}
+
+impl fmt::Display for MarkFault {
+    ghost use Rattle.extraction.specs.Marking.{mark_refusal};
+
+    ghost output = { λ f. Some (reason_text (mark_refusal f).reason) };
+
+    fn fmt<W: fmt::Write>(&self, f: &mut fmt::Formatter<W>) -> fmt::Result {
+        let reason = self.refusal().reason;
+        write!(f, "{reason}")
+    }
+}
+
+impl Error for MarkFault {}
+
+fn any_seeded(names: &[Name]) -> bool
+    ensures { result ≡ list_any (λ n. n.seeded) names.now }
+{
+    names.iter().any(|name| name.seeded)
+}
+
+// Whether no name of the book is seeded.
+fn is_unseeded(book: &Book) -> bool
+    ensures { result ≡ unseeded (contents book.now) }
+{
+    !any_seeded(book.names().as_slice())
+}
+
+// How many names of the book are seeded.
+fn count_seeded(book: &Book) -> usize
+    ensures { result ≡ names_in (contents book.now) (signature (contents book.now)) }
+{
+    let names = book.names().as_slice();
+    names.iter().filter(|name| name.seeded).count()
+}
+
+// How many flags are set.
+fn count_flags(flags: &[bool]) -> usize
+    ensures { result ≡ count_below (length flags.now) (set_of flags.now) }
+{
+    flags.iter().filter(|flag| **flag).count()
+}
+
+// Writes 1 or 0 for each flag. Bytes are written by number: written through `iter_mut`, what the buffer ends as stays open
+// in the proof.
+fn write_flags(flags: &[bool], bytes: &mut [u8])
+    requires { length flags.now ≤ length bytes.old }
+    ensures { bytes.new ≡ overwritten (length flags.now) (set_of flags.now) bytes.old }
+{
+    for (number, flag) in flags.iter().enumerate() {
+        bytes[number] = u8::from(*flag);
+    }
+}
+
+// Writes out the flags that a book has: those of its axioms, and those of its names.
+fn write_tables(book: &Book, tables: &Tables, axioms: &mut [u8], names: &mut [u8])
+    requires axioms_fit { axiom_count (contents book.now) ≤ length axioms.old }
+    requires names_fit { name_count (contents book.now) ≤ length names.old }
+    ensures axioms { axioms.new ≡ overwritten (axiom_count (contents book.now)) (set_of tables.now.kept) axioms.old }
+    ensures names { names.new ≡ overwritten (name_count (contents book.now)) (set_of tables.now.closed) names.old }
+{
+    write_flags(&tables.kept[..book.axioms().len()], axioms);
+    write_flags(&tables.closed[..book.names().count()], names);
+}
+
+// Counts what tables hold. Every seeded name is listed, so the others are those drawn in.
+fn tally(book: &Book, tables: &Tables, rounds: u32) -> Marking
+    requires { ListsSeeded (contents book.now) tables.now }
+    ensures { Tallies (contents book.now) tables.now rounds result }
+{
+    let closed = count_flags(&tables.closed[..book.names().count()]);
+    Marking {
+        marked: count_flags(&tables.kept[..book.axioms().len()]),
+        closed,
+        drawn_in: closed - count_seeded(book),
+        rounds,
+    }
+}
+
+// Marks a frozen book through a pile: 1 or 0 for each axiom in one buffer, 1 or 0 for each name, whether it is in the
+// closed signature, in another. The buffers are lent one by one: a struct around both would be made for one call, and taken
+// apart in it.
+pub fn mark<E: Extractor>(
+    frozen: &Frozen,
+    pile: &E,
+    axioms: &mut [u8],
+    names: &mut [u8],
+) -> Result<Marking, MarkFault>
+    ensures gives { MarksAs axioms.new names.new result (marking (contents frozen.now.book) (E.Extractor.kept pile.now (contents frozen.now.book)) (E.Extractor.rounds pile.now (contents frozen.now.book)) (record { axioms = axioms.old; names = names.old })) }
+    ensures means { Meaning (contents frozen.now.book) (E.Extractor.kept pile.now (contents frozen.now.book)) (E.Extractor.repair pile.now (contents frozen.now.book)) (E.Extractor.rounds pile.now (contents frozen.now.book)) }
+    ensures promises { E.Extractor.stages pile.now (contents frozen.now.book) }
+{
+    let book = frozen.book();
+    if is_unseeded(book) {
+        return Err(MarkFault::EmptySignature);
+    }
+    if axioms.len() < book.axioms().len() || names.len() < book.names().count() {
+        return Err(MarkFault::ShortBuffer);
+    }
+    let mut tables = Tables::new();
+    let rounds = pile.extract(book, &mut tables);
+    write_tables(book, &tables, axioms, names);
+    Ok(tally(book, &tables, rounds))
 }

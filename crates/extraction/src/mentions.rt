@@ -1,27 +1,20 @@
-// The names of an axiom, added to a list.
+// The names of an axiom, added to a list. The list is lent to each of these anew: a struct around it would have to promise
+// at every step that it still holds the same one.
 ghost use Rattle.terms.specs.Forms.{form, meaning, rule};
 ghost use Rattle.terms.specs.Tables.{nodes_of};
-ghost use Rattle.locality.specs.Mentions.{same, role_of, in_term, in_rule};
+ghost use Rattle.locality.specs.Mentions.{same, in_term, in_rule};
 ghost use Rattle.extraction.specs.Listing.{Adds};
 
-use terms::{Axiom, RoleItem, Term, TermId, Terms};
+use terms::{Axiom, Term, TermId, Terms};
 use vocabulary::NameId;
 
 fn list_name(listed: &mut [bool], id: NameId)
     ensures { Adds (same id) listed.old listed.new }
 {
-    let at = id.0 as usize;
+    // a flag lent by `get_mut` leaves it open what the slice ends as
+    let at = usize::from(id.0);
     if at < listed.len() {
         listed[at] = true;
-    }
-}
-
-fn list_role(listed: &mut [bool], role: RoleItem)
-    ensures { Adds (same (role_of role)) listed.old listed.new }
-{
-    match role {
-        RoleItem::Forward(name) => list_name(listed, name),
-        RoleItem::Inverse(name) => list_name(listed, name),
     }
 }
 
@@ -33,27 +26,22 @@ fn list_term(listed: &mut [bool], terms: &Terms, id: TermId, levels: u8)
         return;
     }
     match terms.at(id) {
-        Term::Nothing => {}
-        Term::Everything => {}
-        Term::Concept(name) => list_name(listed, name),
-        Term::Just(individual) => list_name(listed, individual),
+        Term::Nothing | Term::Everything => {}
+        Term::Concept(name) | Term::Just(name) => list_name(listed, name),
         Term::Not(inner) => list_term(listed, terms, inner, levels - 1),
         Term::And(left, right) => {
             list_term(listed, terms, left, levels - 1);
             list_term(listed, terms, right, levels - 1);
         }
-        Term::Exists(role, inner) => {
-            list_role(listed, role);
-            list_term(listed, terms, inner, levels - 1);
-        }
-        Term::AtLeast(_, role, inner) => {
-            list_role(listed, role);
+        Term::Exists(role, inner) | Term::AtLeast(_, role, inner) => {
+            list_name(listed, role.name());
             list_term(listed, terms, inner, levels - 1);
         }
     }
 }
 
 // Adds the names of a whole term.
+#[tactic(auto, unfolding(terms::specs::Forms::meaning))]
 fn list_whole(listed: &mut [bool], terms: &Terms, id: TermId)
     ensures { Adds (in_term (meaning (nodes_of terms.now) id)) listed.old listed.new }
 {
@@ -65,20 +53,16 @@ pub(crate) fn list_axiom(listed: &mut [bool], terms: &Terms, axiom: Axiom)
     ensures { Adds (in_rule (rule (nodes_of terms.now) «axiom»)) listed.old listed.new }
 {
     match axiom {
-        Axiom::Inclusion(left, right) => {
-            list_whole(listed, terms, left);
-            list_whole(listed, terms, right);
-        }
-        Axiom::Equivalence(left, right) => {
+        Axiom::Inclusion(left, right) | Axiom::Equivalence(left, right) => {
             list_whole(listed, terms, left);
             list_whole(listed, terms, right);
         }
         Axiom::RoleInclusion(left, right) => {
-            list_role(listed, left);
-            list_role(listed, right);
+            list_name(listed, left.name());
+            list_name(listed, right.name());
         }
         Axiom::Transitive(role) => list_name(listed, role),
-        Axiom::Functional(role) => list_role(listed, role),
+        Axiom::Functional(role) => list_name(listed, role.name()),
         Axiom::ConceptAssertion(individual, term) => {
             list_name(listed, individual);
             list_whole(listed, terms, term);

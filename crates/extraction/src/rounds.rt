@@ -15,7 +15,8 @@ use book::Book;
 use locality::LocalityTest;
 use terms::{Axiom, Terms};
 
-// Whether a round marks the axiom with a number: it was handed up, is not marked, and is not local against the list.
+// Whether a round marks the axiom with a number: it was handed up, is not marked, and is not local against the list. The
+// flags are read by number, since the same pass sets them.
 fn is_fresh<T: LocalityTest>(
     test: &T,
     terms: &Terms,
@@ -50,6 +51,7 @@ pub(crate) fn round<T: LocalityTest>(test: &T, book: &Book, tables: &mut Tables)
 }
 
 // The rounds of a stage on tables that hold what was handed up: the first that marks no axiom is the last, and counts.
+// Rounds are what is counted here, and there is no iterator that they come from.
 pub(crate) fn rounds<T: LocalityTest>(test: &T, book: &Book, tables: &mut Tables) -> u32
     requires { Inside (contents book.now) tables.old }
     ensures holds { Holding (contents book.now) (stage_finish (contents book.now) (T.LocalityTest.local test.now) (set_of tables.old.handed)).marked tables.new }

@@ -10,7 +10,7 @@ use locality::LocalityTest;
 
 // A stage: a locality test over any extractor. The axioms that the extractor below keeps are handed up to it; it marks
 // some of them in rounds and keeps what it marked, so it is again an extractor.
-#[derive(Clone, Copy)]
+#[derive(Clone, Copy, Debug)]
 pub struct Stage<T, E> {
     pub test: T,
     pub below: E,

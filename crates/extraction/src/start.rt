@@ -1,41 +1,61 @@
 // Tables as they are filled from a book: its signature, and its axioms in force.
-ghost use Rattle.std.specs.Prelude.{◌≡◌};
+ghost use Rattle.std.specs.Prelude.{◌≡◌, ◌≤◌, Bool, length, map};
 ghost use Rattle.book.specs.Calls.{contents};
 ghost use Rattle.locality.specs.Tables.{listed_in};
 ghost use Rattle.extraction.specs.Listing.{set_of};
 ghost use Rattle.extraction.specs.Sets.{is_in_force, signature};
 
-use book::Book;
-use vocabulary::NameId;
+use book::{Book, Filed};
+use vocabulary::Name;
 
-// Whether the name with a number is in the signature.
-pub(crate) fn is_seeded(book: &Book, id: NameId) -> bool
-    ensures { result ≡ signature (contents book.now) id }
-{
-    match book.names().get(id) {
-        Some(name) => name.seeded,
-        None => false,
+// An item that is chosen or not: a name for the signature, an axiom to be in force. It is a trait and no closure, since
+// what `choice` ensures is an equation, and takes the test as a function.
+trait Chosen {
+    ghost chosen: { Self → Bool };
+
+    fn is_chosen(&self) -> bool
+        ensures { result ≡ chosen self.now };
+}
+
+impl Chosen for Name {
+    ghost chosen = { λ n. n.seeded };
+
+    fn is_chosen(&self) -> bool {
+        self.seeded
     }
+}
+
+impl Chosen for Filed {
+    ghost chosen = { λ f. f.in_force };
+
+    fn is_chosen(&self) -> bool {
+        self.in_force
+    }
+}
+
+// A flag for each number that an item may have: whether there is one, and it is chosen. Flags are set by number: set
+// through `iter_mut`, what the others are stays open in the proof.
+fn choice<T: Chosen>(items: &[T]) -> [bool; 1024]
+    requires { length items.now ≤ 1024 }
+    ensures { set_of result ≡ set_of (map T.chosen items.now) }
+{
+    let mut flags = [false; 1024];
+    for (number, item) in items.iter().enumerate() {
+        flags[number] = item.is_chosen();
+    }
+    flags
 }
 
 // The signature of a book, as a list of flags: one for each number that a name may have.
 pub fn seeded_names(book: &Book) -> [bool; 1024]
     ensures { listed_in result ≡ signature (contents book.now) }
 {
-    let mut listed = [false; 1024];
-    for number in 0..book.names().count() {
-        listed[number] = is_seeded(book, NameId(number as u16));
-    }
-    listed
+    choice(book.names().as_slice())
 }
 
 // The axioms of a book that are in force.
 pub(crate) fn axioms_in_force(book: &Book) -> [bool; 1024]
     ensures { set_of result ≡ is_in_force (contents book.now) }
 {
-    let mut kept = [false; 1024];
-    for (number, filed) in book.axioms().iter().enumerate() {
-        kept[number] = filed.in_force;
-    }
-    kept
+    choice(book.axioms())
 }

@@ -2,8 +2,9 @@ ghost use Rattle.std.specs.Prelude.{◌≡◌};
 ghost use Rattle.extraction.specs.Extracts.{blank_tables};
 
 // The tables that a call lends to an extractor, a flag for each number that an axiom or a name may have: the axioms handed
-// up to a stage, the axioms kept, and the names of the closed signature.
-#[derive(Clone, Copy)]
+// up to a stage, the axioms kept, and the names of the closed signature. They are arrays, since no memory may be claimed
+// after a book is opened, and have no type of their own, since a locality test takes a plain slice of flags.
+#[derive(Clone, Copy, Debug)]
 pub struct Tables {
     pub(crate) handed: [bool; 1024],
     pub kept: [bool; 1024],

@@ -13,15 +13,15 @@ use crate::tables::Tables;
 use book::Book;
 
 // The whole extractor: all axioms in force are kept, so worlds need no repair, and no round is counted.
-#[derive(Clone, Copy)]
+#[derive(Clone, Copy, Debug)]
 pub struct Whole;
 
 // Adds the names of the axioms in a set to a list.
 fn list_names(listed: &mut [bool; 1024], book: &Book, kept: &[bool; 1024])
     ensures { ListedTo (contents book.now) (axiom_count (contents book.now)) (set_of kept.now) (listed_in listed.old) listed.new }
 {
-    for (number, filed) in book.axioms().iter().enumerate() {
-        if kept[number] {
+    for (filed, is_kept) in book.axioms().iter().zip(kept) {
+        if *is_kept {
             list_axiom(listed, book.terms(), filed.axiom);
         }
     }

@@ -2,7 +2,7 @@
 use Rattle.std.specs.Prelude.{Bool, false, ◌||◌, ◌==◌}
 use Rattle.vocabulary.specs.declared.name.NameId.{NameId}
 use Rattle.terms.specs.declared.term.RoleItem.{RoleItem}
-use Rattle.terms.specs.declared.term.RoleItem.TheVariants.{Forward, Inverse}
+use Rattle.terms.specs.Roles.{role_name}
 use Rattle.terms.specs.Forms.{Form, Rule, nothing, everything, concept, just, negation, both, exists, at_least, inclusion, equivalence, role_inclusion, transitive, functional, member, related}
 use Rattle.locality.specs.Worlds.{Names}
 
@@ -11,8 +11,7 @@ same n m = n.0 == m.0
 
 -- the role name of a role item
 abbrev pub role_of : RoleItem → NameId
-role_of (Forward r) = r
-role_of (Inverse r) = r
+role_of r = role_name r
 
 abbrev pub in_term : Form → Names
 in_term nothing n = false

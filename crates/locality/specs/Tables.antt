@@ -22,6 +22,10 @@ abbrev pub is_bottom : Filling → Bool
 is_bottom Bottom = true
 is_bottom Top = false
 
+abbrev pub is_filling : Filling → Filling → Bool
+is_filling Bottom d = is_bottom d
+is_filling Top d = is_top d
+
 abbrev pub default_of : Filling → Default
 default_of d = record { concept = λ size x. is_top d; role = λ size x y. is_top d }
 

@@ -1,128 +1,114 @@
 ghost use Rattle.std.specs.Prelude.{◌≡◌, ◌&&◌};
 ghost use Rattle.terms.specs.Forms.{form, meaning, rule};
 ghost use Rattle.terms.specs.Tables.{nodes_of};
-ghost use Rattle.locality.specs.Mentions.{role_of};
-ghost use Rattle.locality.specs.Tables.{listed_in, is_bottom, is_top, outside, empty_term, full_term, local_rule};
+ghost use Rattle.locality.specs.Tables.{listed_in, is_filling, outside, empty_term, full_term, local_rule};
 
 use crate::filling::Filling;
-use terms::{Axiom, RoleItem, Term, TermId, Terms};
+use terms::{Axiom, Term, TermId, Terms};
 use vocabulary::NameId;
 
-// Whether the name is on the list; one past the list's end is not.
-fn is_listed(listed: &[bool], id: NameId) -> bool
-    ensures { result ≡ listed_in listed.now id }
-{
-    let at = id.0 as usize;
-    if at < listed.len() { listed[at] } else { false }
+// What an axiom is tested against: a list of names, and what the names outside it are set to.
+#[derive(Clone, Copy)]
+pub(crate) struct Checks<'a> {
+    pub(crate) filling: Filling,
+    pub(crate) terms: &'a Terms,
+    pub(crate) listed: &'a [bool],
 }
 
-// The name of the role, whichever way round it is taken.
-fn role_name(role: RoleItem) -> NameId
-    ensures { result ≡ role_of role }
-{
-    match role {
-        RoleItem::Forward(name) => name,
-        RoleItem::Inverse(name) => name,
+impl Checks<'_> {
+    // Whether the name is on the list; one past the list's end is not.
+    fn is_listed(&self, id: NameId) -> bool
+        ensures { result ≡ listed_in self.now.listed.now id }
+    {
+        self.listed.get(usize::from(id.0)).copied().unwrap_or(false)
     }
-}
 
-// The name is outside the list, and so set to nothing.
-fn is_emptied(filling: Filling, listed: &[bool], id: NameId) -> bool
-    ensures { result ≡ (is_bottom filling && outside filling (listed_in listed.now) id) }
-{
-    match filling {
-        Filling::Bottom => !is_listed(listed, id),
-        Filling::Top => false,
+    // The name is outside the list, and so set to this.
+    fn is_set(&self, to: Filling, id: NameId) -> bool
+        ensures { result ≡ (is_filling to self.now.filling && outside self.now.filling (listed_in self.now.listed.now) id) }
+    {
+        self.filling == to && !self.is_listed(id)
     }
-}
 
-// The name is outside the list, and so set to everything.
-fn is_filled(filling: Filling, listed: &[bool], id: NameId) -> bool
-    ensures { result ≡ (is_top filling && outside filling (listed_in listed.now) id) }
-{
-    match filling {
-        Filling::Bottom => false,
-        Filling::Top => !is_listed(listed, id),
-    }
-}
-
-// Whether the term is empty by its form, read down to a number of levels.
-#[cycle(is_empty_is_full)]
-fn is_empty(filling: Filling, terms: &Terms, listed: &[bool], id: TermId, levels: u8) -> bool
-    ensures { result ≡ empty_term filling (listed_in listed.now) (form levels (nodes_of terms.now) id) }
-{
-    if levels == 0 {
-        return true;
-    }
-    match terms.at(id) {
-        Term::Nothing => true,
-        Term::Everything => false,
-        Term::Concept(name) => is_emptied(filling, listed, name),
-        Term::Just(_) => false, // the individual is in it
-        Term::Not(inner) => is_full(filling, terms, listed, inner, levels - 1),
-        Term::And(left, right) => is_empty(filling, terms, listed, left, levels - 1)
-            || is_empty(filling, terms, listed, right, levels - 1),
-        Term::Exists(role, inner) => is_emptied(filling, listed, role_name(role))
-            || is_empty(filling, terms, listed, inner, levels - 1),
-        Term::AtLeast(_, role, inner) => is_emptied(filling, listed, role_name(role))
-            || is_empty(filling, terms, listed, inner, levels - 1),
-    }
-}
-
-// Whether the term is full by its form, read down to a number of levels.
-#[cycle(is_empty_is_full)]
-fn is_full(filling: Filling, terms: &Terms, listed: &[bool], id: TermId, levels: u8) -> bool
-    ensures { result ≡ full_term filling (listed_in listed.now) (form levels (nodes_of terms.now) id) }
-{
-    if levels == 0 {
-        return false;
-    }
-    match terms.at(id) {
-        Term::Nothing => false,
-        Term::Everything => true,
-        Term::Concept(name) => is_filled(filling, listed, name),
-        Term::Just(_) => false, // there may be other elements
-        Term::Not(inner) => is_empty(filling, terms, listed, inner, levels - 1),
-        Term::And(left, right) => is_full(filling, terms, listed, left, levels - 1)
-            && is_full(filling, terms, listed, right, levels - 1),
-        Term::Exists(role, inner) => is_filled(filling, listed, role_name(role))
-            && is_full(filling, terms, listed, inner, levels - 1),
-        Term::AtLeast(_, _, _) => false, // there may be too few elements
-    }
-}
-
-// Whether the whole term is empty by its form.
-fn never(filling: Filling, terms: &Terms, listed: &[bool], id: TermId) -> bool
-    ensures { result ≡ empty_term filling (listed_in listed.now) (meaning (nodes_of terms.now) id) }
-{
-    is_empty(filling, terms, listed, id, 24)
-}
-
-// Whether the whole term is full by its form.
-fn always(filling: Filling, terms: &Terms, listed: &[bool], id: TermId) -> bool
-    ensures { result ≡ full_term filling (listed_in listed.now) (meaning (nodes_of terms.now) id) }
-{
-    is_full(filling, terms, listed, id, 24)
-}
-
-// The axiom is local against the list.
-pub(crate) fn is_local(filling: Filling, terms: &Terms, axiom: Axiom, listed: &[bool]) -> bool
-    ensures { result ≡ local_rule filling (listed_in listed.now) (rule (nodes_of terms.now) «axiom») }
-{
-    match axiom {
-        Axiom::Inclusion(left, right) => never(filling, terms, listed, left)
-            || always(filling, terms, listed, right),
-        Axiom::Equivalence(left, right) => {
-            let empty = never(filling, terms, listed, left) && never(filling, terms, listed, right);
-            let full = always(filling, terms, listed, left)
-                && always(filling, terms, listed, right);
-            empty || full
+    // Whether the term is empty by its form, read down to a number of levels. The two checks are no mirrors of one another:
+    // "at least" is never full, and one individual is neither.
+    #[cycle(is_empty_is_full)]
+    fn is_empty(&self, id: TermId, levels: u8) -> bool
+        ensures { result ≡ empty_term self.now.filling (listed_in self.now.listed.now) (form levels (nodes_of self.now.terms.now) id) }
+    {
+        if levels == 0 {
+            return true;
         }
-        Axiom::RoleInclusion(left, right) => is_emptied(filling, listed, role_name(left))
-            || is_filled(filling, listed, role_name(right)),
-        Axiom::Transitive(role) => !is_listed(listed, role),
-        Axiom::Functional(role) => is_emptied(filling, listed, role_name(role)),
-        Axiom::ConceptAssertion(_, term) => always(filling, terms, listed, term),
-        Axiom::RoleAssertion(role, _, _) => is_filled(filling, listed, role),
+        match self.terms.at(id) {
+            Term::Nothing => true,
+            Term::Everything => false,
+            Term::Concept(name) => self.is_set(Filling::Bottom, name),
+            Term::Just(_) => false, // the individual is in it
+            Term::Not(inner) => self.is_full(inner, levels - 1),
+            Term::And(left, right) => self.is_empty(left, levels - 1)
+                || self.is_empty(right, levels - 1),
+            Term::Exists(role, inner) | Term::AtLeast(_, role, inner) => self.is_set(
+                Filling::Bottom,
+                role.name(),
+            ) || self.is_empty(inner, levels - 1),
+        }
+    }
+
+    // Whether the term is full by its form, read down to a number of levels.
+    #[cycle(is_empty_is_full)]
+    fn is_full(&self, id: TermId, levels: u8) -> bool
+        ensures { result ≡ full_term self.now.filling (listed_in self.now.listed.now) (form levels (nodes_of self.now.terms.now) id) }
+    {
+        if levels == 0 {
+            return false;
+        }
+        match self.terms.at(id) {
+            Term::Nothing => false,
+            Term::Everything => true,
+            Term::Concept(name) => self.is_set(Filling::Top, name),
+            Term::Just(_) => false, // there may be other elements
+            Term::Not(inner) => self.is_empty(inner, levels - 1),
+            Term::And(left, right) => self.is_full(left, levels - 1)
+                && self.is_full(right, levels - 1),
+            Term::Exists(role, inner) => self.is_set(Filling::Top, role.name())
+                && self.is_full(inner, levels - 1),
+            Term::AtLeast(_, _, _) => false, // there may be too few elements
+        }
+    }
+
+    // Whether the whole term is empty by its form.
+    #[tactic(auto, unfolding(terms::specs::Forms::meaning))]
+    fn never(&self, id: TermId) -> bool
+        ensures { result ≡ empty_term self.now.filling (listed_in self.now.listed.now) (meaning (nodes_of self.now.terms.now) id) }
+    {
+        self.is_empty(id, 24)
+    }
+
+    // Whether the whole term is full by its form.
+    #[tactic(auto, unfolding(terms::specs::Forms::meaning))]
+    fn always(&self, id: TermId) -> bool
+        ensures { result ≡ full_term self.now.filling (listed_in self.now.listed.now) (meaning (nodes_of self.now.terms.now) id) }
+    {
+        self.is_full(id, 24)
+    }
+
+    // The axiom is local against the list.
+    pub(crate) fn is_local(&self, axiom: Axiom) -> bool
+        ensures { result ≡ local_rule self.now.filling (listed_in self.now.listed.now) (rule (nodes_of self.now.terms.now) «axiom») }
+    {
+        match axiom {
+            Axiom::Inclusion(left, right) => self.never(left) || self.always(right),
+            Axiom::Equivalence(left, right) => {
+                let empty = self.never(left) && self.never(right);
+                let full = self.always(left) && self.always(right);
+                empty || full
+            }
+            Axiom::RoleInclusion(left, right) => self.is_set(Filling::Bottom, left.name())
+                || self.is_set(Filling::Top, right.name()),
+            Axiom::Transitive(role) => !self.is_listed(role),
+            Axiom::Functional(role) => self.is_set(Filling::Bottom, role.name()),
+            Axiom::ConceptAssertion(_, term) => self.always(term),
+            Axiom::RoleAssertion(role, _, _) => self.is_set(Filling::Top, role),
+        }
     }
 }

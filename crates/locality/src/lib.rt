@@ -8,4 +8,4 @@ mod test;
 
 pub use facts::single_terms;
 pub use filling::Filling;
-pub use test::{Bottom, LocalityTest, Top};
+pub use test::LocalityTest;

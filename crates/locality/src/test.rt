@@ -1,14 +1,13 @@
 ghost use Rattle.std.specs.Prelude.{◌≡◌, Bool, true};
 ghost use Rattle.terms.specs.Forms.{Rule, rule};
 ghost use Rattle.terms.specs.Tables.{nodes_of};
-ghost use Rattle.locality.specs.declared.filling.Filling.TheVariants.{Bottom as bottom, Top as top};
 ghost use Rattle.locality.specs.Counts.{counts_fit};
 ghost use Rattle.locality.specs.Laws.{TestLaws};
 ghost use Rattle.locality.specs.Tables.{listed_in, default_of, local_rule};
 ghost use Rattle.locality.specs.Worlds.{Names, Default};
 ghost use Rattle.locality.specs.Keeps.{keeps_laws};
 
-use crate::checks;
+use crate::checks::Checks;
 use crate::filling::Filling;
 use terms::{Axiom, Terms};
 
@@ -27,34 +26,21 @@ pub trait LocalityTest {
     ghost keeps: { (t : Self) → TestLaws (local t) (default t) };
 }
 
-// The test that sets names outside the list to nothing.
-#[derive(Clone, Copy)]
-pub struct Bottom;
+// The bottom test and the top test.
+impl LocalityTest for Filling {
+    ghost local = { λ t r listed. local_rule t listed r };
 
-impl LocalityTest for Bottom {
-    ghost local = { λ t r listed. local_rule bottom listed r };
+    ghost default = { default_of };
 
-    ghost default = { λ t. default_of bottom };
+    ghost keeps = { keeps_laws };
 
-    ghost keeps = { λ t. keeps_laws bottom };
-
+    #[tactic(auto, using(crate::proofs::Tabled::rule_counts))]
     fn is_local(&self, terms: &Terms, axiom: Axiom, listed: &[bool]) -> bool {
-        checks::is_local(Filling::Bottom, terms, axiom, listed)
-    }
-}
-
-// The test that sets names outside the list to everything.
-#[derive(Clone, Copy)]
-pub struct Top;
-
-impl LocalityTest for Top {
-    ghost local = { λ t r listed. local_rule top listed r };
-
-    ghost default = { λ t. default_of top };
-
-    ghost keeps = { λ t. keeps_laws top };
-
-    fn is_local(&self, terms: &Terms, axiom: Axiom, listed: &[bool]) -> bool {
-        checks::is_local(Filling::Top, terms, axiom, listed)
+        let checks = Checks {
+            filling: *self,
+            terms,
+            listed,
+        };
+        checks.is_local(axiom)
     }
 }

@@ -1,9 +1,10 @@
 -- What a record was that a book took, and what it did: a name's, a seed's or an axiom's as it is written.
-use Rattle.std.proofs.Common.{◌≡◌, ℕ, ◌+◌, ◌*◌, ◌<◌, Bool, true, false, cond, eqb, ltb, leb, List, [], ◌∷◌, ◌++◌, length, Some, None, Ok, Err, Option, Result, sym, refl, ap, ◌∙◌, ap₂, arith}
+use Rattle.std.proofs.Common.{◌≡◌, ℕ, ◌+◌, ◌*◌, ◌<◌, Bool, true, false, cond, eqb, ltb, leb, List, [], ◌∷◌, ◌++◌, length, Some, None, Ok, Err, Option, Result, sym, refl, ap, ◌∙◌, ap₂}
+use Rattle.std.specs.Option.{ok_or}
 use Rattle.std.proofs.lemmas.List.{take_all}
 use Rattle.std.proofs.lemmas.Bool.{eqb-true, ltb-true, cond-true, cond-false}
 use Rattle.vocabulary.specs.declared.fault.NameFault.{NameFault}
-use Rattle.vocabulary.specs.declared.fault.NameFault.TheVariants.{LabelTaken, TableFull}
+use Rattle.vocabulary.specs.declared.fault.NameFault.TheVariants.{BadKind, LabelTaken, TableFull}
 use Rattle.vocabulary.specs.declared.kind.Kind.{Kind}
 use Rattle.vocabulary.specs.declared.kind.Kind.TheVariants.{Concept, Role, Individual}
 use Rattle.vocabulary.specs.declared.name.NameId.{NameId}
@@ -29,7 +30,8 @@ use Rattle.book.proofs.Admitting.{nothing_against}
 use Rattle.records.specs.Files.{Entry, word_at}
 use Rattle.records.specs.Loading.{record_turn, taken_as, done, name_record, seed_record, bounded}
 use Rattle.part.specs.Order.{all_bytes, seed_number}
-use Rattle.part.specs.Parts.{kind_number, name_entry, seed_entry, axiom_entry, forced}
+use Rattle.terms.specs.Codes.{kind_number}
+use Rattle.part.specs.Parts.{name_entry, seed_entry, axiom_entry, forced}
 use Rattle.part.proofs.Split.{refused_not, byte_at, two_back}
 
 -- a call that a test might refuse was not refused by it
@@ -40,11 +42,11 @@ passed false s f turn m x h = h
 -- an answer that was told at the layer above, and one without its value
 raise_ok : {A F G : Type 0} (up : F → G) (r : Result A F) (x : A) → raise up r ≡ Ok x → r ≡ Ok x
 raise_ok up (Ok y) x e = let is : y ≡ x = cc in ap Ok is
-raise_ok up (Err f) x e = absurd (let z : ◌≡◌ {A = ℕ} 0 1 = cc in omega arith)
+raise_ok up (Err f) x e = absurd (cc)
 
 done_ok : {A F : Type 0} (r : Result A F) → done r ≡ Ok tt → (x : A) × (r ≡ Ok x)
 done_ok (Ok x) e = (x, refl)
-done_ok (Err f) e = absurd (let z : ◌≡◌ {A = ℕ} 0 1 = cc in omega arith)
+done_ok (Err f) e = absurd (cc)
 
 taken_ok : {A F G : Type 0} (up : F → G) (t : Turn Contents A F) (m : Contents) → taken_as up t ≡ accepted m tt → (x : A) × (t ≡ accepted m x)
 taken_ok up t m h =
@@ -64,7 +66,7 @@ stands_for number n x y others h other = go (eqb n (number x)) refl h
     go false is e = other e
 
 none_not : {X : Type 0} (y : X) → None ≡ Some y → ⊥
-none_not y h = let z : ◌≡◌ {A = ℕ} 0 1 = cc in omega arith
+none_not y h = cc
 
 kind_byte : (n : ℕ) (k : Kind) → kind_of n ≡ Some k → code_of k ≡ n
 kind_byte n k h =
@@ -83,7 +85,7 @@ name_made : (es ns : List Entity) (n : ℕ) (l : List ℕ) (i : NameId) → nami
 unfolding naming
 name_made es ns n l i = go (kind_of n) (labelling l) refl refl
   where
-    go : (o : Option Kind) (r : Result (List ℕ) NameFault) → kind_of n ≡ o → labelling l ≡ r → naming_with es o r ≡ accepted ns i → (k : Kind) × (code_of k ≡ n) × (ns ≡ es ++ fresh k l ∷ [])
+    go : (o : Option Kind) (r : Result (List ℕ) NameFault) → kind_of n ≡ o → labelling l ≡ r → naming_with es (ok_or o BadKind) r ≡ accepted ns i → (k : Kind) × (code_of k ≡ n) × (ns ≡ es ++ fresh k l ∷ [])
     go None r is own h = absurd (refused_not _ _ _ _ h)
     go (Some k) (Err f) is own h = absurd (refused_not _ _ _ _ h)
     go (Some k) (Ok m) is own h =

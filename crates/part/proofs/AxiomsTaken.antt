@@ -4,7 +4,7 @@ use lib.Seq.{append_snoc}
 use Rattle.std.proofs.lemmas.List.Sums.{sum_by-append, sum_by-cons}
 use Rattle.std.proofs.lemmas.Bool.{leb-true, le-ltb, lt-leb, and_parts, cond-false}
 use Rattle.vocabulary.specs.Entities.{Entity}
-use Rattle.vocabulary.specs.Lists.{every}
+use Rattle.std.specs.List.{list_all}
 use Rattle.vocabulary.specs.Naming.{Turn, accepted}
 use Rattle.terms.specs.declared.«axiom».AxiomKind.{AxiomKind}
 use Rattle.terms.specs.declared.«axiom».AxiomKind.TheVariants.{Inclusion, Equivalence, RoleInclusion, Transitive, Functional, ConceptAssertion, RoleAssertion}
@@ -19,7 +19,8 @@ use Rattle.book.specs.Contents.{Contents, Filing, body_length, bodies_length, so
 use Rattle.book.specs.Calls.{raise, obstacle_of, filing_of}
 use Rattle.book.proofs.Admitting.{admission_done}
 use Rattle.records.specs.Loading.{record_turn, taken_as}
-use Rattle.part.specs.Parts.{kind_number, axiom_entry, forced}
+use Rattle.terms.specs.Codes.{kind_number}
+use Rattle.part.specs.Parts.{axiom_entry, forced}
 use Rattle.part.proofs.Entries.{Takes}
 
 -- a record of an axiom's kind is filed
@@ -48,7 +49,7 @@ axiom_taken b r good room space =
     ap (λ (t : Turn Contents AxiomId BookFault). taken_as (λ f. f) (record { state = t.state; answer = raise Book t.answer })) turn
 
 -- all axioms, after those that there are
-pub axioms_taken : (names : List Entity) (fs : List Filing) (rs : List Rule) (all : List Filing) → all ≡ fs ++ map forced rs → every (sound names) (map forced rs) ≡ true → length all ≤ 1024 → bodies_length all ≤ 32768 → Takes (record { names = names; axioms = fs }) (map axiom_entry rs) (record { names = names; axioms = all })
+pub axioms_taken : (names : List Entity) (fs : List Filing) (rs : List Rule) (all : List Filing) → all ≡ fs ++ map forced rs → list_all (sound names) (map forced rs) ≡ true → length all ≤ 1024 → bodies_length all ≤ 32768 → Takes (record { names = names; axioms = fs }) (map axiom_entry rs) (record { names = names; axioms = all })
 axioms_taken names fs [] all is good few short = ap (λ l. record { names = names; axioms = l }) (sym (is ∙ append-nil fs))
 axioms_taken names fs (r ∷ rs) all is good few short =
     let p = and_parts (sound names (forced r)) _ good in

@@ -2,9 +2,10 @@
 use Rattle.std.proofs.Common.{◌≡◌, ℕ, zero, suc, ◌+◌, ◌-◌, ◌<◌, ◌≤◌, Bool, true, false, cond, not, ◌&&◌, eqb, ltb, leb, List, [], ◌∷◌, ◌++◌, map, length, get_or, drop, sym, refl, ap, ◌∙◌, subst, ap₂, append-nil, arith, drop-drop}
 use lib.Seq.{append_snoc}
 use Rattle.std.proofs.lemmas.List.{get_or-map, map_push}
+use Rattle.std.proofs.lemmas.List.Folds.{list_all-append}
 use Rattle.std.proofs.lemmas.Bool.{leb-true, eqb-true, not-true, and_parts, and_from, cond-true, cond-false}
 use Rattle.vocabulary.specs.Entities.{Entity, reseed}
-use Rattle.vocabulary.specs.Lists.{every}
+use Rattle.std.specs.List.{list_all}
 use Rattle.vocabulary.specs.Naming.{accepted, fresh}
 use Rattle.terms.specs.Forms.{Rule}
 use Rattle.book.specs.Contents.{Contents}
@@ -23,30 +24,21 @@ use Rattle.part.proofs.ReadsBack.{part_entries, part_file}
 -- ---- lists
 
 module _ {X : Type 0} (p : X → Bool) where
-  every_parts : (xs ys : List X) → every p (xs ++ ys) ≡ true → (every p xs ≡ true) × (every p ys ≡ true)
-  every_parts [] ys h = (refl, h)
-  every_parts (x ∷ xs) ys h =
-      let s = and_parts (p x) _ h in let t = every_parts xs ys s.1 in (and_from _ _ s.0 t.0, t.1)
-
-  every_push : (xs : List X) (x : X) → every p xs ≡ true → p x ≡ true → every p (xs ++ x ∷ []) ≡ true
-  every_push [] x e h = and_from _ _ h refl
-  every_push (y ∷ xs) x e h = let s = and_parts (p y) _ e in and_from _ _ s.0 (every_push xs x s.1 h)
-
-  every_drop : (n : ℕ) (xs : List X) → every p xs ≡ true → every p (drop n xs) ≡ true
-  every_drop zero xs h = h
-  every_drop (suc n) [] h = refl
-  every_drop (suc n) (x ∷ xs) h = every_drop n xs (and_parts (p x) _ h).1
+  list_all_drop : (n : ℕ) (xs : List X) → list_all p xs ≡ true → list_all p (drop n xs) ≡ true
+  list_all_drop zero xs h = h
+  list_all_drop (suc n) [] h = refl
+  list_all_drop (suc n) (x ∷ xs) h = list_all_drop n xs (and_parts (p x) _ h).1
 
   -- from a place on, and so from every later one
-  every_later : (m n : ℕ) (xs : List X) → m ≤ n → every p (drop m xs) ≡ true → every p (drop n xs) ≡ true
-  every_later m n xs le h =
+  list_all_later : (m n : ℕ) (xs : List X) → m ≤ n → list_all p (drop m xs) ≡ true → list_all p (drop n xs) ≡ true
+  list_all_later m n xs le h =
       let far : m + (n - m) ≡ n = omega arith in
-      ap (λ k. every p (drop k xs)) (sym far) ∙ ap (every p) (sym (drop-drop (n - m) m xs)) ∙ every_drop (n - m) (drop m xs) h
+      ap (λ k. list_all p (drop k xs)) (sym far) ∙ ap (list_all p) (sym (drop-drop (n - m) m xs)) ∙ list_all_drop (n - m) (drop m xs) h
 
 -- the bytes of the first record's body, and of the others
 file_bytes_again : (e : Entry) (es : List Entry) → all_bytes (file_bytes (e ∷ es)) ≡ true → (all_bytes e.body ≡ true) × (all_bytes (file_bytes es) ≡ true)
 file_bytes_again e es h =
-    every_parts (λ x. ltb x 256) e.body (file_bytes es) (every_drop (λ x. ltb x 256) 4 (file_bytes (e ∷ es)) h)
+    and_parts _ _ (sym (list_all-append (λ x. ltb x 256) e.body (file_bytes es)) ∙ list_all_drop (λ x. ltb x 256) 4 (file_bytes (e ∷ es)) h)
 
 -- ---- seeds
 
@@ -55,13 +47,13 @@ abbrev plain : Entity → Bool
 plain e = not e.seeded
 
 -- names of which none is seeded have no seeds
-seeds_none : (k : ℕ) (es : List Entity) → every plain es ≡ true → seeds_from k es ≡ []
+seeds_none : (k : ℕ) (es : List Entity) → list_all plain es ≡ true → seeds_from k es ≡ []
 seeds_none k [] h = refl
 seeds_none k (e ∷ es) h =
     let s = and_parts (plain e) _ h in cond-false _ _ _ (not-true _ s.0) ∙ seeds_none (suc k) es s.1
 
 -- a name that is seeded after all others that are
-seeds_more : (k n q : ℕ) (es : List Entity) → q ≡ k + n → n < length es → every plain (drop n es) ≡ true → seeds_from k (reseed es n true) ≡ seeds_from k es ++ q ∷ []
+seeds_more : (k n q : ℕ) (es : List Entity) → q ≡ k + n → n < length es → list_all plain (drop n es) ≡ true → seeds_from k (reseed es n true) ≡ seeds_from k es ++ q ∷ []
 seeds_more k n q [] at h l = absurd (omega arith)
 seeds_more k zero q (e ∷ es) at h l =
     let s = and_parts (plain e) _ l in
@@ -73,7 +65,7 @@ seeds_more k (suc n) q (e ∷ es) at h l = go e.seeded (seeds_more (suc k) n q e
     go true later = ap (λ r. k ∷ r) later
     go false later = later
 
-plain_after : (n : ℕ) (es : List Entity) → every plain (drop n es) ≡ true → every plain (drop (suc n) (reseed es n true)) ≡ true
+plain_after : (n : ℕ) (es : List Entity) → list_all plain (drop n es) ≡ true → list_all plain (drop (suc n) (reseed es n true)) ≡ true
 plain_after n [] h = refl
 plain_after zero (e ∷ es) h = (and_parts (plain e) _ h).1
 plain_after (suc n) (e ∷ es) h = plain_after n es h
@@ -134,7 +126,7 @@ seeds_end es b c none a = record {
 }
 
 -- one more seed
-seeds_on : (e : Entry) (es : List Entry) (b m c : Contents) (n : ℕ) → n < length b.names → e ≡ seed_entry n → m ≡ record { names = reseed b.names n true; axioms = b.axioms } → every plain (drop n b.names) ≡ true → SeedsAre m c es → SeedsAre b c (e ∷ es)
+seeds_on : (e : Entry) (es : List Entry) (b m c : Contents) (n : ℕ) → n < length b.names → e ≡ seed_entry n → m ≡ record { names = reseed b.names n true; axioms = b.axioms } → list_all plain (drop n b.names) ≡ true → SeedsAre m c es → SeedsAre b c (e ∷ es)
 seeds_on e es b m c n h is made clear s =
     let seeds = ap (map seed_entry) (seeds_more 0 n n b.names (omega arith) h clear) ∙ map_push seed_entry (seeds_from 0 b.names) n in
     record {
@@ -147,18 +139,18 @@ seeds_on e es b m c n h is made clear s =
     }
 
 -- the first record is a seed's, or none is
-seed_first : (e : Entry) (es : List Entry) (b c : Contents) (least : ℕ) (on : Bool) → eqb e.kind 32 ≡ on → b.axioms ≡ [] → every plain (drop least b.names) ≡ true → cond on (leb least (seed_number e) && seeds_then_axioms (suc (seed_number e)) es) (axioms_only (e ∷ es)) ≡ true → all_bytes (file_bytes (e ∷ es)) ≡ true → Takes b (e ∷ es) c → ((m : Contents) → m.axioms ≡ [] → every plain (drop (suc (seed_number e)) m.names) ≡ true → seeds_then_axioms (suc (seed_number e)) es ≡ true → all_bytes (file_bytes es) ≡ true → Takes m es c → SeedsAre m c es) → SeedsAre b c (e ∷ es)
+seed_first : (e : Entry) (es : List Entry) (b c : Contents) (least : ℕ) (on : Bool) → eqb e.kind 32 ≡ on → b.axioms ≡ [] → list_all plain (drop least b.names) ≡ true → cond on (leb least (seed_number e) && seeds_then_axioms (suc (seed_number e)) es) (axioms_only (e ∷ es)) ≡ true → all_bytes (file_bytes (e ∷ es)) ≡ true → Takes b (e ∷ es) c → ((m : Contents) → m.axioms ≡ [] → list_all plain (drop (suc (seed_number e)) m.names) ≡ true → seeds_then_axioms (suc (seed_number e)) es ≡ true → all_bytes (file_bytes es) ≡ true → Takes m es c → SeedsAre m c es) → SeedsAre b c (e ∷ es)
 seed_first e es b c least false is none clear order bytes t later =
     seeds_end (e ∷ es) b c none (axioms_again (e ∷ es) b c order bytes t)
 seed_first e es b c least true is none clear order bytes (m, turn, t) later =
     let o = and_parts (leb least (seed_number e)) _ order in
     let body = file_bytes_again e es bytes in
     let was = seed_was b m e body.0 (ap (λ k. eqb k 1) (eqb-true e.kind 32 is)) is turn in
-    let from = every_later plain least (seed_number e) b.names (leb-true least (seed_number e) o.0) clear in
-    let after = ap (λ d. every plain (drop (suc (seed_number e)) d.names)) was.2 ∙ plain_after (seed_number e) b.names from in
+    let from = list_all_later plain least (seed_number e) b.names (leb-true least (seed_number e) o.0) clear in
+    let after = ap (λ d. list_all plain (drop (suc (seed_number e)) d.names)) was.2 ∙ plain_after (seed_number e) b.names from in
     seeds_on e es b m c (seed_number e) was.0 was.1 was.2 from (later m (ap (λ d. d.axioms) was.2 ∙ none) after o.1 body.1 t)
 
-seeds_again : (es : List Entry) (b c : Contents) (least : ℕ) → b.axioms ≡ [] → every plain (drop least b.names) ≡ true → seeds_then_axioms least es ≡ true → all_bytes (file_bytes es) ≡ true → Takes b es c → SeedsAre b c es
+seeds_again : (es : List Entry) (b c : Contents) (least : ℕ) → b.axioms ≡ [] → list_all plain (drop least b.names) ≡ true → seeds_then_axioms least es ≡ true → all_bytes (file_bytes es) ≡ true → Takes b es c → SeedsAre b c es
 seeds_again [] b c least none clear order bytes t = seeds_end [] b c none (axioms_again [] b c refl bytes t)
 seeds_again (e ∷ es) b c least none clear order bytes t =
     seed_first e es b c least (eqb e.kind 32) refl none clear order bytes t (λ m. seeds_again es m c (suc (seed_number e)))
@@ -170,7 +162,7 @@ all_kept kept k (r ∷ rs) h =
     cond-true _ _ _ (h k (omega arith) (omega arith)) ∙ ap (λ l. r ∷ l) (all_kept kept (suc k) rs (λ i l m. h i (omega arith) (omega arith)))
 
 -- with no seed before them
-names_end : (es : List Entry) (b c : Contents) → every plain b.names ≡ true → SeedsAre b c es → part_entries c (is_in_force c) ≡ map name_entry b.names ++ es
+names_end : (es : List Entry) (b c : Contents) → list_all plain b.names ≡ true → SeedsAre b c es → part_entries c (is_in_force c) ≡ map name_entry b.names ++ es
 names_end es b c clear s =
     let on : (i : ℕ) → i < length s.rules → is_in_force c i ≡ true =
     λ i l. ap (λ fs. (get_or fs i no_filing).in_force) s.axioms ∙ ap (λ f. f.in_force) (get_or-map forced s.rules i no_filing.states no_filing l) in
@@ -178,17 +170,17 @@ names_end es b c clear s =
     ap₂ ◌++◌ s.names (ap (λ rs. map seed_entry (seeds_from 0 c.names) ++ map axiom_entry rs) all ∙ s.entries ∙ ap (λ ns. map seed_entry ns ++ es) (seeds_none 0 b.names clear))
 
 -- the first record is a name's, or none is
-name_first : (e : Entry) (es : List Entry) (b c : Contents) (on : Bool) → eqb e.kind 1 ≡ on → b.axioms ≡ [] → every plain b.names ≡ true → cond on (in_writer_order es) (seeds_then_axioms 0 (e ∷ es)) ≡ true → all_bytes (file_bytes (e ∷ es)) ≡ true → Takes b (e ∷ es) c → ((m : Contents) → m.axioms ≡ [] → every plain m.names ≡ true → in_writer_order es ≡ true → all_bytes (file_bytes es) ≡ true → Takes m es c → part_entries c (is_in_force c) ≡ map name_entry m.names ++ es) → part_entries c (is_in_force c) ≡ map name_entry b.names ++ e ∷ es
+name_first : (e : Entry) (es : List Entry) (b c : Contents) (on : Bool) → eqb e.kind 1 ≡ on → b.axioms ≡ [] → list_all plain b.names ≡ true → cond on (in_writer_order es) (seeds_then_axioms 0 (e ∷ es)) ≡ true → all_bytes (file_bytes (e ∷ es)) ≡ true → Takes b (e ∷ es) c → ((m : Contents) → m.axioms ≡ [] → list_all plain m.names ≡ true → in_writer_order es ≡ true → all_bytes (file_bytes es) ≡ true → Takes m es c → part_entries c (is_in_force c) ≡ map name_entry m.names ++ es) → part_entries c (is_in_force c) ≡ map name_entry b.names ++ e ∷ es
 name_first e es b c false is none clear order bytes t later =
     names_end (e ∷ es) b c clear (seeds_again (e ∷ es) b c 0 none clear order bytes t)
 name_first e es b c true is none clear order bytes (m, turn, t) later =
     let (k, l, entry, made) = name_was b m e is turn in
-    let after = ap (λ d. every plain d.names) made ∙ every_push plain b.names (fresh k l) clear refl in
+    let after = ap (λ d. list_all plain d.names) made ∙ list_all-append plain b.names (fresh k l ∷ []) ∙ and_from _ _ clear refl in
     later m (ap (λ d. d.axioms) made ∙ none) after order (file_bytes_again e es bytes).1 t ∙
     ap (λ d. map name_entry d.names ++ es) made ∙ ap (λ l. l ++ es) (map_push name_entry b.names (fresh k l)) ∙
     append_snoc (map name_entry b.names) (name_entry (fresh k l)) es ∙ ap (λ d. map name_entry b.names ++ d ∷ es) (sym entry)
 
-names_again : (es : List Entry) (b c : Contents) → b.axioms ≡ [] → every plain b.names ≡ true → in_writer_order es ≡ true → all_bytes (file_bytes es) ≡ true → Takes b es c → part_entries c (is_in_force c) ≡ map name_entry b.names ++ es
+names_again : (es : List Entry) (b c : Contents) → b.axioms ≡ [] → list_all plain b.names ≡ true → in_writer_order es ≡ true → all_bytes (file_bytes es) ≡ true → Takes b es c → part_entries c (is_in_force c) ≡ map name_entry b.names ++ es
 names_again [] b c none clear order bytes t = names_end [] b c clear (seeds_again [] b c 0 none clear refl bytes t)
 names_again (e ∷ es) b c none clear order bytes t =
     name_first e es b c (eqb e.kind 1) refl none clear order bytes t (λ m. names_again es m c)

@@ -9,7 +9,5 @@ pub mod Split
 pub mod Accepted
 pub mod InOrder
 pub mod Ordered
-pub mod Writes
-pub mod Heads
-pub mod Numbered
+pub mod Sections
 pub mod Delivered

@@ -1,5 +1,5 @@
 -- The records of names, loaded into a book with no axiom, make these names one after the other, none of them seeded.
-use Rattle.std.proofs.Common.{◌≡◌, ℕ, suc, ◌<◌, ◌≤◌, true, false, not, ◌||◌, leb, List, [], ◌∷◌, ◌++◌, map, length, Some, Ok, sym, refl, ap, ◌∙◌, subst, ⊎_elim, append-nil, arith, length-append}
+use Rattle.std.proofs.Common.{◌≡◌, ℕ, suc, ◌<◌, ◌≤◌, true, false, not, ◌||◌, leb, List, [], ◌∷◌, ◌++◌, map, length, Ok, sym, refl, ap, ◌∙◌, subst, ⊎_elim, append-nil, arith, length-append}
 use lib.ListN.{length-map}
 use lib.Seq.{append_snoc}
 use Rattle.std.proofs.lemmas.Slice.Eq.{bytes_eq-Decides}
@@ -9,12 +9,12 @@ use Rattle.vocabulary.specs.declared.fault.NameFault.{NameFault}
 use Rattle.vocabulary.specs.declared.kind.Kind.{Kind}
 use Rattle.vocabulary.specs.declared.kind.Kind.TheVariants.{Concept, Role, Individual}
 use Rattle.vocabulary.specs.declared.name.NameId.{NameId}
-use Rattle.vocabulary.specs.Entities.{Entity, labelling, named, held, distinct}
-use Rattle.vocabulary.specs.Kinds.{kind_of, code_of}
+use Rattle.vocabulary.specs.Entities.{Entity, kinding, labelling, named, held, distinct}
+use Rattle.vocabulary.specs.Kinds.{code_of}
 use Rattle.vocabulary.specs.Labels.{fitting, graphics}
-use Rattle.vocabulary.specs.Lists.{every}
+use Rattle.std.specs.List.{list_all}
 use Rattle.vocabulary.specs.Naming.{Turn, accepted, fresh}
-use Rattle.vocabulary.proofs.Scans.{any_append}
+use Rattle.std.proofs.lemmas.List.Folds.{list_any-append}
 use Rattle.vocabulary.proofs.Turns.{naming_done}
 use Rattle.book.specs.declared.fault.BookFault.TheVariants.{Name}
 use Rattle.book.specs.declared.fault.FileFault.TheVariants.{Book}
@@ -34,7 +34,7 @@ abbrev pub plain : List Entity → Contents
 plain ns = record { names = map unseeded ns; axioms = [] }
 
 -- the byte of a kind stands for it
-pub kind_back : (k : Kind) → Some k ≡ kind_of (code_of k)
+pub kind_back : (k : Kind) → Ok k ≡ kinding (code_of k)
 kind_back Concept = refl
 kind_back Role = refl
 kind_back Individual = refl
@@ -55,7 +55,7 @@ not_held : (pre : List Entity) (e : Entity) (es : List Entity) → distinct (pre
 not_held [] e es h = refl
 not_held (d ∷ pre) e es h =
     let p = and_parts (not (held d.kind d.label (pre ++ e ∷ es))) _ h in
-    let q = or_parts _ _ (sym (any_append (named d.kind d.label) pre (e ∷ es)) ∙ not-true _ p.0) in
+    let q = or_parts _ _ (sym (list_any-append (named d.kind d.label) pre (e ∷ es)) ∙ not-true _ p.0) in
     let other : named d.kind d.label e ≡ false = (or_parts _ _ q.1).0 in
     or_from _ _ (⊎_elim (λ t. absurd (both_ways _ other (named_back d e t))) (λ t. t) (cases_Bool (named e.kind e.label d))) (not_held pre e es p.1)
 
@@ -72,7 +72,7 @@ name_taken pre e es good apart room =
     ap (λ ns. accepted (record { names = ns; axioms = [] }) tt) (sym (map_push unseeded pre e))
 
 -- all names, after those that there are
-pub names_taken : (pre es all : List Entity) → all ≡ pre ++ es → every well_labelled es ≡ true → distinct all ≡ true → length all ≤ 1024 → Takes (plain pre) (map name_entry es) (plain all)
+pub names_taken : (pre es all : List Entity) → all ≡ pre ++ es → list_all well_labelled es ≡ true → distinct all ≡ true → length all ≤ 1024 → Takes (plain pre) (map name_entry es) (plain all)
 names_taken pre [] all is good apart few = ap plain (sym (is ∙ append-nil pre))
 names_taken pre (e ∷ es) all is good apart few =
     let p = and_parts (well_labelled e) _ good in

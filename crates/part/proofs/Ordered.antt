@@ -8,7 +8,8 @@ use Rattle.terms.specs.Forms.{Rule}
 use Rattle.terms.specs.Writing.{rule_kind}
 use Rattle.records.specs.Files.{Entry}
 use Rattle.part.specs.Order.{after_entry, entries_from, seed_number, axioms_only, seeds_then_axioms, in_writer_order}
-use Rattle.part.specs.Parts.{file_bytes, kind_number, name_entry, seed_entry, axiom_entry, seeds_from, kept_from, part_bytes}
+use Rattle.terms.specs.Codes.{kind_number}
+use Rattle.part.specs.Parts.{file_bytes, name_entry, seed_entry, axiom_entry, seeds_from, kept_from, part_bytes}
 use Rattle.part.proofs.RoundTrips.{WrittenInOrder}
 use Rattle.part.proofs.Entries.{two_parts, record_size, record_read, record_rest, records_few}
 use Rattle.part.proofs.ReadsBack.{part_entries, part_file}

@@ -4,7 +4,7 @@ use lib.ListN.{length-map}
 use Rattle.std.proofs.lemmas.List.Sums.{sum_by-cons}
 use Rattle.std.proofs.lemmas.Bool.{and_parts, and_from, cond_both}
 use Rattle.vocabulary.specs.Entities.{Entity}
-use Rattle.vocabulary.specs.Lists.{every}
+use Rattle.std.specs.List.{list_all}
 use Rattle.vocabulary.specs.Naming.{accepted}
 use Rattle.book.specs.Contents.{Contents, Filing, body_length, bodies_length, sound}
 use Rattle.book.specs.Calls.{empty}
@@ -21,12 +21,12 @@ use Rattle.part.proofs.AxiomsTaken.{axioms_taken}
 
 -- the axioms of a set are sound where all are, and no more and no longer than all
 module _ (kept : Marks) where
-  kept_sound : (names : List Entity) (k : ℕ) (fs : List Filing) → every (sound names) fs ≡ true → every (sound names) (map forced (kept_from k kept fs)) ≡ true
+  kept_sound : (names : List Entity) (k : ℕ) (fs : List Filing) → list_all (sound names) fs ≡ true → list_all (sound names) (map forced (kept_from k kept fs)) ≡ true
   kept_sound names k [] h = refl
   kept_sound names k (f ∷ fs) h =
       let p = and_parts (sound names f) _ h in
       let rest = kept_sound names (suc k) fs p.1 in
-      cond_both (kept k) _ _ (λ rs. every (sound names) (map forced rs) ≡ true) (λ _. and_from _ _ p.0 rest) (λ _. rest)
+      cond_both (kept k) _ _ (λ rs. list_all (sound names) (map forced rs) ≡ true) (λ _. and_from _ _ p.0 rest) (λ _. rest)
 
   kept_few : (k : ℕ) (fs : List Filing) → length (map forced (kept_from k kept fs)) ≤ length fs
   kept_few k [] = omega arith

@@ -15,7 +15,7 @@ use Rattle.part.proofs.Entries.{Takes}
 
 -- a refusal is no acceptance
 pub refused_not : {S A F : Type 0} (s m : S) (f : F) (x : A) → refused s f ≡ accepted m x → ⊥
-refused_not s m f x e = let a = ap (λ t. t.answer) e in let z : ◌≡◌ {A = ℕ} 0 1 = cc in omega arith
+refused_not s m f x e = let a = ap (λ t. t.answer) e in cc
 
 -- each of a list of bytes is one, and so is what is read past its end
 pub byte_at : (xs : List ℕ) → all_bytes xs ≡ true → (i : ℕ) → get_or xs i 0 < 256
@@ -53,8 +53,8 @@ module _ (file : List ℕ) (bytes : all_bytes file ≡ true) (at : ℕ) where
   record_split e h = go (ltb (length file) (at + 4)) (ltb (length file) (at + 4 + word_at file at)) refl h
     where
       go : (s t : Bool) → ltb (length file) (at + 4 + word_at file at) ≡ t → cond s (Err CutShort) (cond t (Err CutShort) (Ok here)) ≡ Ok e → drop at file ≡ record_bytes e ++ drop (at + 4 + length e.body) file
-      go true t a i = absurd (let z : ◌≡◌ {A = ℕ} 0 1 = cc in omega arith)
-      go false true a i = absurd (let z : ◌≡◌ {A = ℕ} 0 1 = cc in omega arith)
+      go true t a i = absurd (cc)
+      go false true a i = absurd (cc)
       go false false a i =
           let is : here ≡ e = cc in
           subst (λ d. drop at file ≡ record_bytes d ++ drop (at + 4 + length d.body) file) is (here_split (ltb-false (length file) (at + 4 + word_at file at) a))

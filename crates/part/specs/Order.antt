@@ -1,12 +1,12 @@
 -- The records of a file, and the order in which a part has them.
 use Rattle.std.specs.Prelude.{ℕ, zero, suc, ◌+◌, Bool, true, cond, not, ◌&&◌, List, [], ◌∷◌, length, Ok, Err, Result, ◌==◌, nat_le, nat_lt}
-use Rattle.vocabulary.specs.Lists.{every}
+use Rattle.std.specs.List.{list_all}
 use Rattle.book.specs.declared.fault.FileFault.{FileFault}
 use Rattle.records.specs.Files.{Entry, word_at, record_at}
 
 -- every number is a byte
 abbrev pub all_bytes : List ℕ → Bool
-all_bytes xs = every (λ x. nat_lt x 256) xs
+all_bytes xs = list_all (λ x. nat_lt x 256) xs
 
 -- a record that was read is followed by the rest
 abbrev pub after_entry : (ℕ → List Entry) → ℕ → Result Entry FileFault → List Entry
@@ -28,7 +28,7 @@ seed_number e = word_at e.body 0
 
 -- no names and no seeds
 abbrev pub axioms_only : List Entry → Bool
-axioms_only es = every (λ e. not (e.kind == 1) && not (e.kind == 32)) es
+axioms_only es = list_all (λ e. not (e.kind == 1) && not (e.kind == 32)) es
 
 -- seeds with ascending numbers, none below `least`, and then axioms only
 abbrev pub seeds_then_axioms : ℕ → List Entry → Bool

@@ -3,12 +3,12 @@
 use Rattle.std.specs.Prelude.{ℕ, suc, ◌+◌, true, cond, List, [], ◌∷◌, ◌++◌, map, length}
 use Rattle.vocabulary.specs.Entities.{Entity}
 use Rattle.vocabulary.specs.Kinds.{code_of}
-use Rattle.terms.specs.declared.«axiom».AxiomKind.{AxiomKind}
-use Rattle.terms.specs.declared.«axiom».AxiomKind.TheVariants.{Inclusion, Equivalence, RoleInclusion, Transitive, Functional, ConceptAssertion, RoleAssertion}
 use Rattle.terms.specs.Forms.{Rule}
 use Rattle.terms.specs.Writing.{two_bytes, body_bytes, rule_kind}
 use Rattle.book.specs.Contents.{Contents, Filing}
+use Rattle.records.specs.declared.kind.RecordKind.TheVariants.{Name, Axiom, Seed}
 use Rattle.records.specs.Files.{Entry}
+use Rattle.records.specs.Kinds.{record_number}
 use Rattle.extraction.specs.Sets.{Marks}
 
 -- a record as bytes: the two-byte length of its body, its two-byte kind, and the body
@@ -20,27 +20,17 @@ abbrev pub file_bytes : List Entry → List ℕ
 file_bytes [] = []
 file_bytes (e ∷ es) = record_bytes e ++ file_bytes es
 
--- the record kind of an axiom
-abbrev pub kind_number : AxiomKind → ℕ
-kind_number Inclusion = 16
-kind_number Equivalence = 17
-kind_number RoleInclusion = 18
-kind_number Transitive = 19
-kind_number Functional = 20
-kind_number ConceptAssertion = 21
-kind_number RoleAssertion = 22
-
 -- the record of a name: its kind byte, then its label
 abbrev pub name_entry : Entity → Entry
-name_entry e = record { kind = 1; body = code_of e.kind ∷ e.label }
+name_entry e = record { kind = record_number Name; body = code_of e.kind ∷ e.label }
 
 -- the record that seeds the name with a number
 abbrev pub seed_entry : ℕ → Entry
-seed_entry n = record { kind = 32; body = two_bytes n }
+seed_entry n = record { kind = record_number Seed; body = two_bytes n }
 
 -- the record of an axiom
 abbrev pub axiom_entry : Rule → Entry
-axiom_entry r = record { kind = kind_number (rule_kind r); body = body_bytes r }
+axiom_entry r = record { kind = record_number (Axiom (rule_kind r)); body = body_bytes r }
 
 abbrev pub name_as_record : Entity → List ℕ
 name_as_record e = record_bytes (name_entry e)

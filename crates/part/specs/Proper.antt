@@ -2,7 +2,7 @@
 use Rattle.std.specs.Prelude.{◌≡◌, ◌≤◌, Bool, true, ◌&&◌, length}
 use Rattle.vocabulary.specs.Entities.{Entity, distinct}
 use Rattle.vocabulary.specs.Labels.{fitting, graphics}
-use Rattle.vocabulary.specs.Lists.{every}
+use Rattle.std.specs.List.{list_all}
 use Rattle.book.specs.Contents.{Contents, bodies_length}
 use Rattle.extraction.specs.Sets.{Sound}
 
@@ -11,7 +11,7 @@ abbrev pub well_labelled : Entity → Bool
 well_labelled e = fitting e.label && graphics e.label
 
 pub record Proper (b : Contents) : Type 0 where
-  pub labels : every well_labelled b.names ≡ true
+  pub labels : list_all well_labelled b.names ≡ true
   pub apart : distinct b.names ≡ true
   pub few_names : length b.names ≤ 1024
   pub right : Sound b

@@ -1,20 +1,16 @@
 -- What writing a part answers, and what it leaves in its three buffers.
-use Rattle.std.specs.Prelude.{◌≡◌, ℕ, Bool, true, cond, ◌||◌, List, [], ◌++◌, length, drop, Some, None, Ok, Option, Result, ◌==◌, nat_lt, slice_index}
-use Rattle.vocabulary.specs.Entities.{Entity}
+use Rattle.std.specs.Prelude.{◌≡◌, ℕ, Bool, true, cond, ◌||◌, List, ◌++◌, length, drop, Ok, Result, ◌==◌, nat_lt, slice_index}
 use Rattle.vocabulary.specs.Naming.{Turn, accepted, refused}
-use Rattle.terms.specs.declared.«axiom».Axiom.{Axiom}
-use Rattle.terms.specs.declared.term.Term.{Term}
-use Rattle.terms.specs.Forms.{rule}
-use Rattle.terms.specs.Writing.{rule_kind}
 use Rattle.book.specs.Contents.{Contents}
-use Rattle.book.specs.Calls.{empty}
+use Rattle.book.specs.Calls.{contents, empty}
 use Rattle.records.specs.Loading.{loading}
 use Rattle.extraction.specs.declared.marking.MarkFault.{MarkFault}
 use Rattle.extraction.specs.declared.marking.MarkFault.TheVariants.{EmptySignature, ShortBuffer}
 use Rattle.extraction.specs.Marking.{by_number, overwritten, unseeded, too_short}
 use Rattle.extraction.specs.Sets.{Marks, axiom_count, name_count, is_in_force, closed_signature}
+use Rattle.part.specs.declared.writing.sections.Part.{Part}
 use Rattle.part.specs.Order.{all_bytes, entries_of, in_writer_order}
-use Rattle.part.specs.Parts.{kind_number, name_as_record, part_bytes, part_contents, record_count}
+use Rattle.part.specs.Parts.{part_axioms, part_bytes, part_contents, record_count}
 
 -- the buffer for the marks of the axioms, the one for those of the names, and the one for the part
 pub record Buffers : Type 0 where
@@ -61,15 +57,13 @@ pub record WritesAs (axioms names part : List ℕ) (r : Result ℕ MarkFault) (t
   pub buffers : record { axioms = axioms; names = names; part = part } ≡ turn.state
   pub answer : r ≡ turn.answer
 
--- the record of a name, if there is one
-abbrev pub found_record : Option Entity → List ℕ
-found_record (Some e) = name_as_record e
-found_record None = []
-
--- the record kind of an axiom, whatever table its terms lie in
-pub record KindOf (a : Axiom) (n : ℕ) : Type 0 where
-  pub kind : (ts : List Term) → n ≡ kind_number (rule_kind (rule ts a))
-
 -- the numbers whose byte is 1
 abbrev pub flagged : List ℕ → Marks
 flagged bytes k = slice_index bytes k == 1
+
+-- the bytes of a part that is at hand, and those of its axioms
+abbrev pub part_written : Part → List ℕ
+part_written p = part_bytes (contents p.book.now) (flagged p.kept.now)
+
+abbrev pub axioms_written : Part → List ℕ
+axioms_written p = part_axioms (contents p.book.now) (flagged p.kept.now)

@@ -1,5 +1,5 @@
 -- One record after the other.
-use Rattle.std.proofs.Common.{◌≡◌, ℕ, zero, suc, ◌+◌, ◌^◌, ◌<◌, ◌≤◌, Bool, true, false, cond, ltb, List, length, take, drop, IfOk, IfErr, Ok, Err, Result, sym, refl, ap, ◌∙◌, subst, arith, length-drop, length-take, ltb-false, le-leb}
+use Rattle.std.proofs.Common.{◌≡◌, ℕ, zero, suc, ◌+◌, ◌<◌, ◌≤◌, Bool, true, false, cond, ltb, List, length, take, drop, IfOk, IfErr, Ok, Err, Result, sym, refl, ap, ◌∙◌, subst, arith, length-drop, length-take, ltb-false, le-leb}
 use borrow.Author.Tests.{lt-leb}
 use Rattle.vocabulary.specs.Naming.{accepted, refused}
 use Rattle.book.specs.declared.book.Draft.{Draft}
@@ -14,7 +14,6 @@ use Rattle.records.specs.Loading.{Loaded, record_turn, after_record, after_turn,
 use Rattle.records.specs.Outcomes.{Stepped, Ends, onward}
 use Rattle.records.specs.Places.{place_in}
 use Rattle.records.specs.Reading.{Yields, entry_of}
-use Rattle.records.specs.Stops.{Stop, located_at}
 use Rattle.records.proofs.Near.{turn_place}
 
 -- a record lies in its file
@@ -33,13 +32,13 @@ module _ {from to : RecordReader} {x : Record} (y : Yields from (Ok x) to) where
   size : from.at + 4 + length x.body.now ≤ length from.file.now
   size = entry_size from.file.now from.at (entry_of x) y.answer
 
-  farther_on : (r : Result (Unit {0}) FileFault) → IfOk r (λ u. (from.at + 4 ≤ to.at) × (to.at ≤ length from.file.now))
-  farther_on (Ok u) = (omega (arith, y.place), omega (arith, y.place, size))
+  farther_on : (r : Result (Unit {0}) FileFault) → IfOk r (λ u. from.at + 4 ≤ to.at)
+  farther_on (Ok u) = omega (arith, y.place)
   farther_on (Err f) = tt
 
-  near_by : (b : Contents) (r : Result (Unit {0}) FileFault) → r ≡ (record_turn b (entry_of x)).answer → IfErr r (λ f. from.at ≤ length from.file.now → place_in from.at f ≤ length from.file.now)
+  near_by : (b : Contents) (r : Result (Unit {0}) FileFault) → r ≡ (record_turn b (entry_of x)).answer → IfErr r (λ f. place_in from.at f ≤ length from.file.now)
   near_by b (Ok u) h = tt
-  near_by b (Err f) h = λ inside. omega (arith, size, turn_place b (entry_of x) from.at f h)
+  near_by b (Err f) h = omega (arith, size, turn_place b (entry_of x) from.at f h)
 
   going : (rest : Contents → ℕ → ℕ → Loaded) (taken : ℕ) (b : Contents) (r : Result (Unit {0}) FileFault) → after_turn rest from.at taken (length x.body.now) b r ≡ onward rest from.at taken r b to.at
   going rest taken b (Ok u) = ap (λ far. rest b far (taken + 1)) (sym y.place)
@@ -63,14 +62,13 @@ module _ {from to : RecordReader} {x : Record} (y : Yields from (Ok x) to) where
 -- ---- the loop: from its state the loading comes to what it comes to from the beginning
 
 pub record Goes (file : List ℕ) (b : Contents) (at taken : ℕ) (whole : Loaded) : Type 0 where
-  pub inside : at ≤ length file
   pub few : taken ≤ at
   pub most : ℕ
   pub enough : length file ≤ at + most
   pub comes : loads most file b at taken ≡ whole
 
 pub begins : (file : List ℕ) (b : Contents) → Goes file b 0 0 (loads (length file) file b 0 0)
-begins file b = record { inside = omega arith; few = omega arith; most = length file; enough = omega arith; comes = refl }
+begins file b = record { few = omega arith; most = length file; enough = omega arith; comes = refl }
 
 -- with a record ahead
 ahead : (most : ℕ) (file : List ℕ) (b : Contents) (at taken : ℕ) → at < length file → length file ≤ at + most → (m : ℕ) × (length file ≤ at + suc m) × (loads most file b at taken ≡ after_record (loads m file) at taken b (record_at file at))
@@ -83,10 +81,9 @@ module _ {file : List ℕ} {before later : Draft} {from to : RecordReader} {take
       let a = ahead g.most file (contents before.book) from.at taken h g.enough in
       let on = subst (λ f. after_record (loads a.0 file) from.at taken (contents before.book) (record_at f from.at) ≡ loads a.0 file (contents later.book) to.at (taken + 1)) same (s.goes (loads a.0 file) taken) in
       record {
-        inside = omega (arith, s.farther.1, ap length same);
-        few = omega (arith, g.few, s.farther.0);
+        few = omega (arith, g.few, s.farther);
         most = a.0;
-        enough = omega (arith, a.1, s.farther.0);
+        enough = omega (arith, a.1, s.farther);
         comes = sym on ∙ sym a.2 ∙ g.comes;
       }
 
@@ -105,17 +102,3 @@ goes_done {file} {d} {at} {taken} {whole} h g =
     ended : (most : ℕ) (f : List ℕ) (b : Contents) (p t : ℕ) → length f ≤ p → accepted b t ≡ loads most f b p t
     ended zero f b p t i = refl
     ended (suc m) f b p t i = sym (ap (λ s. cond s (accepted b t) (after_record (loads m f) p t b (record_at f p))) (le-leb (length f) p i))
-
--- what a located step was
-pub was_ok : {u : Unit {0}} (at taken : ℕ) (r : Result (Unit {0}) FileFault) → Ok u ≡ located_at at taken r → r ≡ Ok u
-was_ok at taken (Ok x) h = refl
-was_ok at taken (Err f) h = absurd (let z : ◌≡◌ {A = ℕ} 0 1 = cc in omega arith)
-
-pub was_err : {s : Stop} (at taken : ℕ) (r : Result (Unit {0}) FileFault) → Err s ≡ located_at at taken r → (f : FileFault) × (r ≡ Err f) × (s ≡ record { at = at; fault = f; taken = taken })
-was_err at taken (Ok x) h = absurd (let z : ◌≡◌ {A = ℕ} 0 1 = cc in omega arith)
-was_err at taken (Err f) h = (f, refl, (cc))
-
--- a fault in the file has a place that fits
-pub near_fits : (at n : ℕ) (r : Result (Unit {0}) FileFault) → IfErr r (λ f. at ≤ n → place_in at f ≤ n) → at ≤ n → n < 2 ^ 64 → IfErr r (λ f. place_in at f < 2 ^ 64)
-near_fits at n (Ok x) h i l = tt
-near_fits at n (Err f) h i l = omega (arith, h i)

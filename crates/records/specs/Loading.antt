@@ -40,9 +40,6 @@ seed_record b (low ∷ []) = refused b (Item (Item'.CutShort 0))
 seed_record b (low ∷ high ∷ rest) = seed_item b (low + 256 * high) rest
 
 -- a body of more than 512 bytes is refused before it is looked into
-abbrev pub within_limit : ℕ → Result (Unit {0}) FileFault
-within_limit size = cond (nat_lt 512 size) (Err BodyTooLong) (Ok tt)
-
 abbrev pub bounded : Contents → List ℕ → Taking BookFault → Taking FileFault
 bounded b body t = cond (nat_lt 512 (length body)) (refused b BodyTooLong) (taken_as Book t)
 

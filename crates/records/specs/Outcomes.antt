@@ -25,6 +25,6 @@ onward rest at taken (Err f) b far = refused b (record { at = at; fault = f; tak
 -- one record was taken, or the loading ends there: then the place of the fault lies in the file, or right after it
 pub record Stepped (before : Draft) (from : RecordReader) (r : Result (Unit {0}) FileFault) (later : Draft) (to : RecordReader) : Type 0 where
   pub file : to.file.now ≡ from.file.now
-  pub farther : IfOk r (λ x. (from.at + 4 ≤ to.at) × (to.at ≤ length from.file.now))
-  pub near : IfErr r (λ f. from.at ≤ length from.file.now → place_in from.at f ≤ length from.file.now)
+  pub farther : IfOk r (λ x. from.at + 4 ≤ to.at)
+  pub near : IfErr r (λ f. place_in from.at f ≤ length from.file.now)
   pub goes : (rest : Contents → ℕ → ℕ → Loaded) (taken : ℕ) → after_record rest from.at taken (contents before.book) (record_at from.file.now from.at) ≡ onward rest from.at taken r (contents later.book) to.at

@@ -18,14 +18,10 @@ stop_of f = record { at = f.offset; fault = f.fault; taken = f.taken }
 
 abbrev pub load_refusal : Stop → Refusal
 load_refusal s = record {
-  number = (file_refusal s.fault).number;
+  reason = (file_refusal s.fault).reason;
   layer = (file_refusal s.fault).layer;
   place = place_in s.at s.fault;
 }
 
 abbrev pub told : {T : Type 0} → Result T LoadFault → Result T Stop
 told r = raise stop_of r
-
--- a step of the record at a place, with so many taken before
-abbrev pub located_at : {T : Type 0} → ℕ → ℕ → Result T FileFault → Result T Stop
-located_at at taken step = raise (λ f. record { at = at; fault = f; taken = taken }) step

@@ -1,17 +1,64 @@
-ghost use Rattle.std.specs.Prelude.{◌^◌, ◌<◌};
+ghost use Rattle.std.specs.Prelude.{◌≡◌, ◌^◌, ◌<◌, Some};
+ghost use Rattle.vocabulary.specs.Refusals.{reason_text};
 ghost use Rattle.records.specs.Places.{place_in};
 
-mod told;
-
 use book::FileFault;
-pub(crate) use told::located;
+use std::error::Error;
+use std::fmt;
+use vocabulary::Refusal;
 
 // A refused loading: the offset of the record where it stopped, why, and how many records were taken before it. The
 // place of the fault fits a number.
-#[derive(Clone, Copy)]
+#[derive(Clone, Copy, Debug, PartialEq, Eq, Hash)]
 pub struct LoadFault {
-    offset: usize,
-    fault: FileFault,
-    taken: usize,
+    pub(crate) offset: usize,
+    pub(crate) fault: FileFault,
+    pub(crate) taken: usize,
     ghost near: { place_in offset fault < 2 ^ 64 },
 }
+
+impl LoadFault {
+    ghost use Rattle.records.specs.Stops.{stop_of, load_refusal};
+
+    // Why the loading stopped.
+    pub fn fault(self) -> FileFault
+        ensures { result ≡ (stop_of self).fault }
+    {
+        self.fault
+    }
+
+    // How many records were taken before the fault.
+    pub fn taken(self) -> usize
+        ensures { result ≡ (stop_of self).taken }
+    {
+        self.taken
+    }
+
+    // The refusal, with its place in the file.
+    pub fn refusal(self) -> Refusal
+        ensures { result ≡ load_refusal (stop_of self) }
+    {
+        let place = match self.fault {
+            FileFault::NotEmpty => 0,
+            FileFault::CutShort | FileFault::UnknownKind | FileFault::BodyTooLong => self.offset,
+            FileFault::Book(fault) => self.offset + 4 + fault.refusal().place,
+        };
+        Refusal {
+            place,
+            ..self.fault.refusal()
+        }
+    }
+}
+
+impl fmt::Display for LoadFault {
+    ghost use Rattle.records.specs.Stops.{stop_of, load_refusal};
+
+    ghost output = { λ f. Some (reason_text (load_refusal (stop_of f)).reason) };
+
+    fn fmt<W: fmt::Write>(&self, f: &mut fmt::Formatter<W>) -> fmt::Result {
+        let reason = self.refusal().reason;
+        write!(f, "{reason}")
+    }
+}
+
+impl Error for LoadFault {}

@@ -1,9 +1,9 @@
-ghost use Rattle.std.specs.Prelude.{◌≡◌, ◌+◌, ◌<◌, ◌≤◌, length};
+ghost use Rattle.std.specs.Prelude.{◌≡◌, length};
 ghost use Rattle.book.specs.Calls.{contents};
 ghost use Rattle.records.specs.Loading.{loads, loading};
 ghost use Rattle.records.specs.Outcomes.{Stepped, Ends};
 
-use crate::fault::{LoadFault, located};
+use crate::fault::LoadFault;
 use crate::reader::RecordReader;
 use crate::taking::take;
 use book::{Draft, FileFault};
@@ -22,9 +22,17 @@ fn load_records(draft: &mut Draft, file: &[u8]) -> Result<usize, LoadFault>
 {
     let mut reader = RecordReader { file, at: 0 };
     let mut taken = 0;
+    // the records are no iterator: each item would have to carry its offset, for the fault that it may have
     while reader.at < file.len() {
-        let at = reader.at;
-        located(at, taken, step(draft, &mut reader))?;
+        let offset = reader.at;
+        // what a closure in a `map_err` makes of the fault stays open in the proof
+        if let Err(fault) = step(draft, &mut reader) {
+            return Err(LoadFault {
+                offset,
+                fault,
+                taken,
+            });
+        }
         taken += 1;
     }
     Ok(taken)
@@ -32,11 +40,16 @@ fn load_records(draft: &mut Draft, file: &[u8]) -> Result<usize, LoadFault>
 
 // Loads a file into a book that has no name and no axiom, and answers how many records were taken. The first faulty
 // record ends it, and those before it stay.
+#[tactic(auto, unfolding(crate::specs::Loading::loading))]
 pub fn load(draft: &mut Draft, file: &[u8]) -> Result<usize, LoadFault>
     ensures { Ends draft.new result (loading (contents draft.old.book) file.now) }
 {
     if !draft.book().is_blank() {
-        return located(0, 0, Err(FileFault::NotEmpty));
+        return Err(LoadFault {
+            offset: 0,
+            fault: FileFault::NotEmpty,
+            taken: 0,
+        });
     }
     load_records(draft, file)
 }

@@ -1,10 +1,9 @@
-ghost use Rattle.std.specs.Prelude.{◌≡◌, ◌+◌, ◌<◌, length};
-ghost use Rattle.records.specs.Files.{word_at};
-ghost use Rattle.records.specs.Reading.{Yields};
+ghost use Rattle.std.specs.Prelude.{◌≡◌, ◌≤◌, length};
 
 use book::FileFault;
 
-// A record of a file: its kind, and its body as a part of the file.
+// A record of a file: the number of its kind, and its body as a part of the file. The number is as it was read: whether it
+// is a kind is looked at where the record is taken, after its body was found whole.
 #[derive(Clone, Copy)]
 pub(crate) struct Record<'a> {
     pub(crate) kind: u16,
@@ -16,35 +15,26 @@ pub(crate) struct Record<'a> {
 pub(crate) struct RecordReader<'a> {
     pub(crate) file: &'a [u8],
     pub(crate) at: usize,
-}
-
-// The two-byte number at a place, the low byte first.
-fn word(file: &[u8], at: usize) -> u16
-    requires { at + 1 < length file.now }
-    ensures { result ≡ word_at file.now at }
-{
-    u16::from(file[at]) + 256 * u16::from(file[at + 1])
+    ghost inside: { at ≤ length file.now },
 }
 
 impl<'a> RecordReader<'a> {
+    ghost use Rattle.records.specs.Reading.{Yields};
+
     // The next record. Where its head or its body is cut short, the reader stays before it.
     pub(crate) fn record(&mut self) -> Result<Record<'a>, FileFault>
         ensures { Yields self.old result self.new }
     {
-        let file = self.file;
-        let at = self.at;
-        if at > file.len() || file.len() - at < 4 {
+        let rest = &self.file[self.at..];
+        let [len_low, len_high, kind_low, kind_high, rest @ ..] = rest else {
             return Err(FileFault::CutShort);
-        }
-        let len = word(file, at) as usize;
-        let kind = word(file, at + 2);
-        if file.len() - at - 4 < len {
-            return Err(FileFault::CutShort);
-        }
-        self.at = at + 4 + len;
+        };
+        let len = usize::from(u16::from_le_bytes([*len_low, *len_high]));
+        let body = rest.get(..len).ok_or(FileFault::CutShort)?;
+        self.at += 4 + len;
         Ok(Record {
-            kind,
-            body: &file[at + 4..at + 4 + len],
+            kind: u16::from_le_bytes([*kind_low, *kind_high]),
+            body,
         })
     }
 }

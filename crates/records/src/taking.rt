@@ -1,8 +1,9 @@
 ghost use Rattle.std.specs.Prelude.{◌≡◌, length};
 ghost use Rattle.book.specs.Calls.{Gives, contents};
-ghost use Rattle.records.specs.Loading.{name_record, seed_record, record_turn, within_limit};
+ghost use Rattle.records.specs.Loading.{name_record, seed_record, record_turn};
 ghost use Rattle.records.specs.Reading.{entry_of};
 
+use crate::kind::RecordKind;
 use crate::reader::Record;
 use book::{BookFault, Draft, FileFault};
 use terms::ItemFault;
@@ -26,8 +27,8 @@ fn take_seed(draft: &mut Draft, body: &[u8]) -> Result<(), BookFault>
     let [low, high, rest @ ..] = body else {
         return Err(BookFault::Item(ItemFault::CutShort(0)));
     };
-    let id = NameId(u16::from(*low) + 256 * u16::from(*high));
-    if draft.book().names().count() <= id.0 as usize {
+    let id = NameId(u16::from_le_bytes([*low, *high]));
+    if draft.book().names().count() <= usize::from(id.0) {
         return Err(BookFault::Item(ItemFault::WrongName(0)));
     }
     if !rest.is_empty() {
@@ -36,30 +37,20 @@ fn take_seed(draft: &mut Draft, body: &[u8]) -> Result<(), BookFault>
     draft.seed(id)
 }
 
-// A body of more than 512 bytes is not looked into.
-fn limited(body: &[u8]) -> Result<(), FileFault>
-    ensures { result ≡ within_limit (length body.now) }
-{
-    if body.len() > 512 {
-        return Err(FileFault::BodyTooLong);
-    }
-    Ok(())
-}
-
-// Takes a record as its naming, filing or seeding.
+// Takes a record as its naming, filing or seeding. A body of more than 512 bytes is not looked into.
 pub(crate) fn take(draft: &mut Draft, entry: Record<'_>) -> Result<(), FileFault>
     ensures { Gives draft.new.book result (record_turn (contents draft.old.book) (entry_of entry.entry)) }
 {
-    if entry.kind == 1 {
-        limited(entry.body)?;
-        take_name(draft, entry.body)?;
-        Ok(())
-    } else if entry.kind == 32 {
-        limited(entry.body)?;
-        take_seed(draft, entry.body)?;
-        Ok(())
-    } else {
-        draft.file(entry.kind, entry.body)?;
-        Ok(())
+    let kind = RecordKind::try_from(entry.kind).map_err(|_| FileFault::UnknownKind)?;
+    if entry.body.len() > 512 {
+        return Err(FileFault::BodyTooLong);
     }
+    match kind {
+        RecordKind::Name => take_name(draft, entry.body)?,
+        RecordKind::Axiom(kind) => {
+            draft.file_axiom(kind, entry.body)?;
+        }
+        RecordKind::Seed => take_seed(draft, entry.body)?,
+    }
+    Ok(())
 }

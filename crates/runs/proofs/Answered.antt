@@ -5,7 +5,8 @@ use Rattle.vocabulary.specs.declared.fault.NameFault.TheVariants.{BadKind, Label
 use Rattle.vocabulary.specs.declared.kind.Kind.{Kind}
 use Rattle.vocabulary.specs.declared.name.NameId.{NameId}
 use Rattle.vocabulary.specs.Kinds.{kind_of}
-use Rattle.vocabulary.specs.Entities.{Entity, reseed, labelling, held}
+use Rattle.std.specs.Option.{ok_or}
+use Rattle.vocabulary.specs.Entities.{Entity, reseed, kinding, labelling, held}
 use Rattle.vocabulary.specs.Naming.{Turn, accepted, refused, fresh, naming}
 use Rattle.vocabulary.proofs.Kept.{labelling_same}
 use Rattle.vocabulary.proofs.Turns.{naming_bad_kind, naming_bad_label, naming_taken, naming_full, naming_done}
@@ -41,19 +42,23 @@ module _ (b : Contents) (code : ℕ) (label : List ℕ) where
   lifted : {t : Turn (List Entity) NameId NameFault} → naming b.names code label ≡ t → naming_call b code label ≡ record { state = record { names = t.state; axioms = b.axioms }; answer = raise Name t.answer }
   lifted e = ap (λ (t : Turn (List Entity) NameId NameFault). record { state = record { names = t.state; axioms = b.axioms }; answer = raise Name t.answer }) e
 
+  -- the kind that the byte stands for, as naming looks at it
+  offered : {o : Option Kind} → kind_of code ≡ o → ok_or o BadKind ≡ kinding code
+  offered e = ap (λ k. ok_or k BadKind) (sym e)
+
   -- a label that is one: it is taken already, the table is full, or the name is made
   fits : (kind : Kind) (full taken : Bool) → kind_of code ≡ Some kind → Ok label ≡ labelling label → held kind label b.names ≡ taken → leb 1024 (length b.names) ≡ full → Naming b code label
-  fits kind full true e h t n = not_made (Name LabelTaken) (lifted (naming_taken _ code label kind label (sym e) h t))
-  fits kind true false e h t n = not_made (Name TableFull) (lifted (naming_full _ code label kind label (sym e) h t (leb-true _ _ n)))
-  fits kind false false e h t n = made kind e (lifted (naming_done _ code label kind label (sym e) h t (leb-false _ _ n)))
+  fits kind full true e h t n = not_made (Name LabelTaken) (lifted (naming_taken _ code label kind label (offered e) h t))
+  fits kind true false e h t n = not_made (Name TableFull) (lifted (naming_full _ code label kind label (offered e) h t (leb-true _ _ n)))
+  fits kind false false e h t n = made kind e (lifted (naming_done _ code label kind label (offered e) h t (leb-false _ _ n)))
 
   -- the kind first, then the label, then the names that there are
   pub naming_way : Naming b code label
   naming_way = go (kind_of code) (labelling label) refl refl
     where
       go : (o : Option Kind) (r : Result (List ℕ) NameFault) → kind_of code ≡ o → labelling label ≡ r → Naming b code label
-      go None r e h = not_made (Name BadKind) (lifted (naming_bad_kind _ code label (sym e)))
-      go (Some kind) (Err f) e h = not_made (Name f) (lifted (naming_bad_label _ code label kind f (sym e) (sym h)))
+      go None r e h = not_made (Name BadKind) (lifted (naming_bad_kind _ code label BadKind (offered e)))
+      go (Some kind) (Err f) e h = not_made (Name f) (lifted (naming_bad_label _ code label kind f (offered e) (sym h)))
       go (Some kind) (Ok l) e h = fits kind _ _ e (ap Ok (sym (labelling_same label l (sym h))) ∙ sym h) refl refl
 
 -- ---- filing

@@ -1,9 +1,7 @@
-pub mod Looping
 pub mod Numbering
 pub mod Answered
 pub mod Telling
 pub mod Taken
 pub mod Told
 pub mod Upholding
-pub mod Stacked
 pub mod Delivering

@@ -1,5 +1,5 @@
 -- Calls as data, and what a list of them does to a book that is a draft or frozen.
-use Rattle.std.specs.Prelude.{ℕ, Bool, true, false, List, [], ◌∷◌, Ok, Err, vec_items, Result}
+use Rattle.std.specs.Prelude.{ℕ, Bool, true, false, List, [], ◌∷◌, Some, None, Ok, Err, vec_items, Option, Result}
 use Rattle.vocabulary.specs.Naming.{Turn}
 use Rattle.book.specs.Contents.{Contents}
 use Rattle.book.specs.Calls.{contents, empty, naming_call, seeding_call, forcing_call, filing_call}
@@ -10,8 +10,8 @@ use Rattle.runs.specs.declared.call.Call.{Call}
 use Rattle.runs.specs.declared.call.Call.TheVariants as Call'
 use Rattle.runs.specs.declared.state.State.{State}
 use Rattle.runs.specs.declared.state.State.TheVariants.{Draft, Frozen}
-use Rattle.runs.specs.declared.outcome.Outcome.{Outcome}
-use Rattle.runs.specs.declared.outcome.Outcome.TheVariants.{Done, Counted, Refused, LoadRefused, NotAllowed}
+use Rattle.runs.specs.declared.outcome.CallFault.{CallFault}
+use Rattle.runs.specs.declared.outcome.CallFault.TheVariants.{Refused, LoadRefused, NotAllowed}
 
 -- a call, its bytes as lists
 pub data Step : Type 0 where
@@ -49,42 +49,42 @@ standing (Frozen f) = record { frozen = true; book = contents f.book }
 abbrev pub start : Standing
 start = record { frozen = false; book = empty }
 
--- what a call leaves, and what it answers
+-- what a call leaves, and what it answers: a number, where it has one to tell, or why it was not made
 pub record Performed : Type 0 where
   pub after : Standing
-  pub answer : Outcome
+  pub answer : Result (Option ℕ) CallFault
 
-abbrev pub answering : {A F : Type 0} → (A → Outcome) → (F → Outcome) → Result A F → Outcome
-answering ok err (Ok x) = ok x
-answering ok err (Err f) = err f
+abbrev pub answering : {A F : Type 0} → (A → Option ℕ) → (F → CallFault) → Result A F → Result (Option ℕ) CallFault
+answering ok err (Ok x) = Ok (ok x)
+answering ok err (Err f) = Err (err f)
 
 -- a call on a draft, which stays one
-abbrev pub drafted : {A F : Type 0} → (A → Outcome) → (F → Outcome) → Turn Contents A F → Performed
+abbrev pub drafted : {A F : Type 0} → (A → Option ℕ) → (F → CallFault) → Turn Contents A F → Performed
 drafted ok err t = record { after = record { frozen = false; book = t.state }; answer = answering ok err t.answer }
 
 -- a draft has every call but reopening
 abbrev pub on_draft : Contents → Step → Performed
-on_draft b (name kind label) = drafted (λ id. Counted id.0) (λ f. Refused (book_refusal f)) (naming_call b kind label)
-on_draft b (file kind body) = drafted (λ id. Counted id.0) (λ f. Refused (file_refusal f)) (filing_call b kind body)
-on_draft b (load bytes) = drafted Counted (λ s. LoadRefused (load_refusal s) s.taken) (loading b bytes)
-on_draft b (lay_aside k) = drafted (λ x. Done) (λ f. Refused (book_refusal f)) (forcing_call b k false)
-on_draft b (restore k) = drafted (λ x. Done) (λ f. Refused (book_refusal f)) (forcing_call b k true)
-on_draft b (seed n) = drafted (λ x. Done) (λ f. Refused (book_refusal f)) (seeding_call b n true)
-on_draft b (unseed n) = drafted (λ x. Done) (λ f. Refused (book_refusal f)) (seeding_call b n false)
-on_draft b freeze = record { after = record { frozen = true; book = b }; answer = Done }
-on_draft b reopen = record { after = record { frozen = false; book = b }; answer = NotAllowed }
+on_draft b (name kind label) = drafted (λ id. Some id.0) (λ f. Refused (book_refusal f)) (naming_call b kind label)
+on_draft b (file kind body) = drafted (λ id. Some id.0) (λ f. Refused (file_refusal f)) (filing_call b kind body)
+on_draft b (load bytes) = drafted Some (λ s. LoadRefused (load_refusal s) s.taken) (loading b bytes)
+on_draft b (lay_aside k) = drafted (λ x. None) (λ f. Refused (book_refusal f)) (forcing_call b k false)
+on_draft b (restore k) = drafted (λ x. None) (λ f. Refused (book_refusal f)) (forcing_call b k true)
+on_draft b (seed n) = drafted (λ x. None) (λ f. Refused (book_refusal f)) (seeding_call b n true)
+on_draft b (unseed n) = drafted (λ x. None) (λ f. Refused (book_refusal f)) (seeding_call b n false)
+on_draft b freeze = record { after = record { frozen = true; book = b }; answer = Ok None }
+on_draft b reopen = record { after = record { frozen = false; book = b }; answer = Err NotAllowed }
 
 -- a frozen book has no call of these but reopening
 abbrev pub on_frozen : Contents → Step → Performed
-on_frozen b reopen = record { after = record { frozen = false; book = b }; answer = Done }
-on_frozen b (name kind label) = record { after = record { frozen = true; book = b }; answer = NotAllowed }
-on_frozen b (file kind body) = record { after = record { frozen = true; book = b }; answer = NotAllowed }
-on_frozen b (load bytes) = record { after = record { frozen = true; book = b }; answer = NotAllowed }
-on_frozen b (lay_aside k) = record { after = record { frozen = true; book = b }; answer = NotAllowed }
-on_frozen b (restore k) = record { after = record { frozen = true; book = b }; answer = NotAllowed }
-on_frozen b (seed n) = record { after = record { frozen = true; book = b }; answer = NotAllowed }
-on_frozen b (unseed n) = record { after = record { frozen = true; book = b }; answer = NotAllowed }
-on_frozen b freeze = record { after = record { frozen = true; book = b }; answer = NotAllowed }
+on_frozen b reopen = record { after = record { frozen = false; book = b }; answer = Ok None }
+on_frozen b (name kind label) = record { after = record { frozen = true; book = b }; answer = Err NotAllowed }
+on_frozen b (file kind body) = record { after = record { frozen = true; book = b }; answer = Err NotAllowed }
+on_frozen b (load bytes) = record { after = record { frozen = true; book = b }; answer = Err NotAllowed }
+on_frozen b (lay_aside k) = record { after = record { frozen = true; book = b }; answer = Err NotAllowed }
+on_frozen b (restore k) = record { after = record { frozen = true; book = b }; answer = Err NotAllowed }
+on_frozen b (seed n) = record { after = record { frozen = true; book = b }; answer = Err NotAllowed }
+on_frozen b (unseed n) = record { after = record { frozen = true; book = b }; answer = Err NotAllowed }
+on_frozen b freeze = record { after = record { frozen = true; book = b }; answer = Err NotAllowed }
 
 abbrev pub perform_from : Bool → Contents → Step → Performed
 perform_from false b c = on_draft b c

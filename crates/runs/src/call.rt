@@ -1,7 +1,8 @@
 use book::AxiomId;
 use vocabulary::NameId;
 
-// A call with its arguments, each as it was given: a kind byte, a record kind, a number or bytes that may be refused.
+// A call with its arguments, each as it was given: a kind byte, a record kind, a number or bytes that may be refused. Calls
+// are data and no closures, since the promise over every list of calls speaks of them.
 #[derive(Drop)]
 pub enum Call {
     Name { kind: u8, label: Vec<u8> },

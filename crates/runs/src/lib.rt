@@ -9,6 +9,6 @@ mod state;
 
 pub use call::Call;
 pub use cut::Cut;
-pub use outcome::Outcome;
+pub use outcome::{Answer, CallFault, Outcome};
 pub use pile::Pile;
 pub use state::State;

@@ -1,16 +1,18 @@
-ghost use Rattle.std.specs.Prelude.{Some};
-ghost use Rattle.runs.specs.Answers.{answer_text};
+ghost use Rattle.std.specs.Prelude.{◌≡◌, Some};
+ghost use Rattle.book.specs.Refusals.{book_refusal, file_refusal};
+ghost use Rattle.records.specs.Stops.{load_refusal, stop_of};
+ghost use Rattle.runs.specs.Answers.{answer_text, fault_text};
+ghost use Rattle.runs.specs.declared.outcome.CallFault.TheVariants.{Refused, LoadRefused};
 
+use book::{BookFault, FileFault};
+use records::LoadFault;
+use std::error::Error;
 use std::fmt;
 use vocabulary::Refusal;
 
-// What a call answers.
-#[derive(Clone, Copy)]
-pub enum Outcome {
-    // accepted, with nothing to tell
-    Done,
-    // accepted, with the number of the new name or axiom, or of the records taken
-    Counted(usize),
+// Why a call did not do what it asks for.
+#[derive(Clone, Copy, Debug, PartialEq, Eq, Hash)]
+pub enum CallFault {
     Refused(Refusal),
     // a loading is refused after some records were taken
     LoadRefused(Refusal, usize),
@@ -18,33 +20,59 @@ pub enum Outcome {
     NotAllowed,
 }
 
-// As the answer to a call in a script.
-impl fmt::Display for Outcome {
-    ghost output = { λ o. Some (answer_text o) };
+impl From<BookFault> for CallFault {
+    ghost from_gives = { λ f r. r ≡ Refused (book_refusal f) };
+
+    fn from(fault: BookFault) -> CallFault {
+        CallFault::Refused(fault.refusal())
+    }
+}
+
+impl From<FileFault> for CallFault {
+    ghost from_gives = { λ f r. r ≡ Refused (file_refusal f) };
+
+    fn from(fault: FileFault) -> CallFault {
+        CallFault::Refused(fault.refusal())
+    }
+}
+
+impl From<LoadFault> for CallFault {
+    ghost from_gives = { λ f r. r ≡ LoadRefused (load_refusal (stop_of f)) (stop_of f).taken };
+
+    fn from(fault: LoadFault) -> CallFault {
+        CallFault::LoadRefused(fault.refusal(), fault.taken())
+    }
+}
+
+impl fmt::Display for CallFault {
+    ghost output = { λ f. Some (fault_text f) };
 
     fn fmt<W: fmt::Write>(&self, f: &mut fmt::Formatter<W>) -> fmt::Result {
         match *self {
-            Outcome::Done => f.write_str("ok"),
-            Outcome::Counted(number) => write!(f, "ok {number}"),
-            Outcome::Refused(refusal) => {
-                let Refusal {
-                    number,
-                    layer,
-                    place,
-                } = refusal;
-                let layer = layer.number();
-                write!(f, "refused {number} {layer} {place}")
-            }
-            Outcome::LoadRefused(refusal, taken) => {
-                let Refusal {
-                    number,
-                    layer,
-                    place,
-                } = refusal;
-                let layer = layer.number();
-                write!(f, "refused {number} {layer} {place} {taken}")
-            }
-            Outcome::NotAllowed => f.write_str("not-allowed"),
+            CallFault::Refused(refusal) => write!(f, "refused {refusal}"),
+            CallFault::LoadRefused(refusal, taken) => write!(f, "refused {refusal} {taken}"),
+            CallFault::NotAllowed => f.write_str("not-allowed"),
+        }
+    }
+}
+
+impl Error for CallFault {}
+
+// What a call answers: the number of the new name or axiom, or of the records taken, where it has one to tell.
+pub type Outcome = Result<Option<usize>, CallFault>;
+
+// An outcome as the answer to a call in a script.
+#[derive(Clone, Copy, Debug)]
+pub struct Answer(pub Outcome);
+
+impl fmt::Display for Answer {
+    ghost output = { λ a. Some (answer_text a.0) };
+
+    fn fmt<W: fmt::Write>(&self, f: &mut fmt::Formatter<W>) -> fmt::Result {
+        match self.0 {
+            Ok(None) => f.write_str("ok"),
+            Ok(Some(number)) => write!(f, "ok {number}"),
+            Err(fault) => write!(f, "{fault}"),
         }
     }
 }

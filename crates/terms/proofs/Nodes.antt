@@ -1,6 +1,7 @@
 -- The tree at a place, from the node that stands there.
-use Rattle.std.proofs.Common.{◌≡◌, ℕ, zero, suc, ◌-◌, ◌<◌, ◌≤◌, List, length, get_or, sym, refl, sub-one, arith}
-use Rattle.std.proofs.lemmas.List.{get_or_past, get_or_read}
+use Rattle.std.proofs.Common.{◌≡◌, ℕ, zero, suc, ◌-◌, ◌<◌, List, get_or, unwrap_or, sym, refl, ◌∙◌, sub-one, arith}
+use Rattle.std.specs.List.{slice_get}
+use Rattle.std.proofs.lemmas.Option.{unwrap_or-slice_get}
 use Rattle.terms.specs.declared.term.TermId.{TermId}
 use Rattle.terms.specs.declared.term.Term.{Term}
 use Rattle.terms.specs.declared.term.Term.TheVariants.{Nothing}
@@ -18,8 +19,6 @@ pub record StandsAt (ts : List Term) (t : TermId) (x : Term) : Type 0 where
 stands_at : (ts : List Term) (t : TermId) (x : Term) → x ≡ get_or ts t.0 Nothing → StandsAt ts t x
 stands_at ts t x e = record { value = e; tree = from_node ts t x (sym e) }
 
-pub node_within : (ts : List Term) (t : TermId) (x : Term) → t.0 < length ts → x ≡ get_or ts t.0 x → StandsAt ts t x
-node_within ts t x h e = stands_at ts t x (get_or_read ts t.0 x h e Nothing)
-
-pub node_past : (ts : List Term) (t : TermId) → length ts ≤ t.0 → StandsAt ts t Nothing
-node_past ts t h = stands_at ts t Nothing (sym (get_or_past ts t.0 Nothing h))
+-- the node that is found at a place, and ⊥ where there is none
+pub node_at : (ts : List Term) (t : TermId) (x : Term) → x ≡ unwrap_or (slice_get ts t.0) Nothing → StandsAt ts t x
+node_at ts t x e = stands_at ts t x (e ∙ unwrap_or-slice_get ts t.0 Nothing)

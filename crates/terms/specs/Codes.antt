@@ -6,6 +6,8 @@ use Rattle.terms.specs.declared.code.Direction.{Direction}
 use Rattle.terms.specs.declared.code.Direction.TheVariants as Direction'
 use Rattle.terms.specs.declared.«axiom».AxiomKind.{AxiomKind}
 use Rattle.terms.specs.declared.«axiom».AxiomKind.TheVariants as Kind'
+use Rattle.terms.specs.declared.«axiom».Axiom.{Axiom}
+use Rattle.terms.specs.declared.«axiom».Axiom.TheVariants.{Inclusion, Equivalence, RoleInclusion, Transitive, Functional, ConceptAssertion, RoleAssertion}
 
 abbrev pub code_of : ℕ → Option Code
 code_of b =
@@ -21,6 +23,21 @@ code_of b =
 abbrev pub direction_of : ℕ → Option Direction
 direction_of b = cond (b == 0) (Some Direction'.Forward) (cond (b == 1) (Some Direction'.Inverse) None)
 
+-- and the other way round
+abbrev pub code_byte : Code → ℕ
+code_byte Code'.Nothing = 0
+code_byte Code'.Everything = 1
+code_byte Code'.Concept = 2
+code_byte Code'.Just = 3
+code_byte Code'.Not = 4
+code_byte Code'.And = 5
+code_byte Code'.Exists = 6
+code_byte Code'.AtLeast = 7
+
+abbrev pub direction_byte : Direction → ℕ
+direction_byte Direction'.Forward = 0
+direction_byte Direction'.Inverse = 1
+
 -- the kinds of axioms are the record kinds 16 to 22
 abbrev pub axiom_kind_of : ℕ → Option AxiomKind
 axiom_kind_of k =
@@ -31,6 +48,25 @@ axiom_kind_of k =
     (cond (k == 20) (Some Kind'.Functional)
     (cond (k == 21) (Some Kind'.ConceptAssertion)
     (cond (k == 22) (Some Kind'.RoleAssertion) None))))))
+
+-- and the other way round
+abbrev pub kind_number : AxiomKind → ℕ
+kind_number Kind'.Inclusion = 16
+kind_number Kind'.Equivalence = 17
+kind_number Kind'.RoleInclusion = 18
+kind_number Kind'.Transitive = 19
+kind_number Kind'.Functional = 20
+kind_number Kind'.ConceptAssertion = 21
+kind_number Kind'.RoleAssertion = 22
+
+abbrev pub kind_of_axiom : Axiom → AxiomKind
+kind_of_axiom (Inclusion t u) = Kind'.Inclusion
+kind_of_axiom (Equivalence t u) = Kind'.Equivalence
+kind_of_axiom (RoleInclusion r s) = Kind'.RoleInclusion
+kind_of_axiom (Transitive r) = Kind'.Transitive
+kind_of_axiom (Functional r) = Kind'.Functional
+kind_of_axiom (ConceptAssertion a t) = Kind'.ConceptAssertion
+kind_of_axiom (RoleAssertion r a b) = Kind'.RoleAssertion
 
 -- a count is at least 1
 abbrev pub count_of : ℕ → Option ℕ

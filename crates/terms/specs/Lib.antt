@@ -5,3 +5,4 @@ pub mod Tables
 pub mod Reading
 pub mod Writing
 pub mod WellFormed
+pub mod Roles

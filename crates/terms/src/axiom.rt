@@ -1,13 +1,15 @@
+ghost use Rattle.std.specs.Option.{ok_or};
 ghost use Rattle.std.specs.Prelude.{◌≡◌};
-ghost use Rattle.terms.specs.Codes.{axiom_kind_of};
+ghost use Rattle.terms.specs.Codes.{axiom_kind_of, kind_number, kind_of_axiom};
 
+use crate::code::UnknownCode;
 use crate::term::{RoleItem, TermId};
 use vocabulary::NameId;
 
-// The seven kinds of axioms.
-#[derive(Clone, Copy)]
+// The seven kinds of axioms, by the kinds of their records.
+#[derive(Clone, Copy, Debug, PartialEq, Eq, Hash)]
 pub enum AxiomKind {
-    Inclusion,
+    Inclusion = 16,
     Equivalence,
     RoleInclusion,
     Transitive,
@@ -16,26 +18,37 @@ pub enum AxiomKind {
     RoleAssertion,
 }
 
-impl AxiomKind {
-    // The axiom kind of a record kind, 16 to 22.
-    pub fn from_code(code: u16) -> Option<AxiomKind>
-        ensures { result ≡ axiom_kind_of code }
-    {
+// The axiom kind of a record kind, 16 to 22.
+impl TryFrom<u16> for AxiomKind {
+    type Error = UnknownCode;
+
+    ghost try_from_gives = { λ code r. r ≡ ok_or (axiom_kind_of code) (record {}) };
+
+    fn try_from(code: u16) -> Result<AxiomKind, UnknownCode> {
         match code {
-            16 => Some(AxiomKind::Inclusion),
-            17 => Some(AxiomKind::Equivalence),
-            18 => Some(AxiomKind::RoleInclusion),
-            19 => Some(AxiomKind::Transitive),
-            20 => Some(AxiomKind::Functional),
-            21 => Some(AxiomKind::ConceptAssertion),
-            22 => Some(AxiomKind::RoleAssertion),
-            _ => None,
+            16 => Ok(AxiomKind::Inclusion),
+            17 => Ok(AxiomKind::Equivalence),
+            18 => Ok(AxiomKind::RoleInclusion),
+            19 => Ok(AxiomKind::Transitive),
+            20 => Ok(AxiomKind::Functional),
+            21 => Ok(AxiomKind::ConceptAssertion),
+            22 => Ok(AxiomKind::RoleAssertion),
+            _ => Err(UnknownCode),
         }
     }
 }
 
+// The record kind of an axiom kind.
+impl From<AxiomKind> for u16 {
+    ghost from_gives = { λ kind code. code ≡ kind_number kind };
+
+    fn from(kind: AxiomKind) -> u16 {
+        kind as u16
+    }
+}
+
 // An axiom; its terms lie in a table.
-#[derive(Clone, Copy)]
+#[derive(Clone, Copy, Debug)]
 pub enum Axiom {
     // the first concept is included in the second
     Inclusion(TermId, TermId),
@@ -49,4 +62,20 @@ pub enum Axiom {
     ConceptAssertion(NameId, TermId),
     // the role relates the first individual to the second
     RoleAssertion(NameId, NameId, NameId),
+}
+
+impl Axiom {
+    pub fn kind(&self) -> AxiomKind
+        ensures { result ≡ kind_of_axiom self.now }
+    {
+        match self {
+            Axiom::Inclusion(_, _) => AxiomKind::Inclusion,
+            Axiom::Equivalence(_, _) => AxiomKind::Equivalence,
+            Axiom::RoleInclusion(_, _) => AxiomKind::RoleInclusion,
+            Axiom::Transitive(_) => AxiomKind::Transitive,
+            Axiom::Functional(_) => AxiomKind::Functional,
+            Axiom::ConceptAssertion(_, _) => AxiomKind::ConceptAssertion,
+            Axiom::RoleAssertion(_, _, _) => AxiomKind::RoleAssertion,
+        }
+    }
 }

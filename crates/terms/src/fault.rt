@@ -1,11 +1,14 @@
-ghost use Rattle.std.specs.Prelude.{◌≡◌};
+ghost use Rattle.std.specs.Prelude.{◌≡◌, Some};
+ghost use Rattle.vocabulary.specs.Refusals.{reason_text};
 ghost use Rattle.terms.specs.Refusals.{item_refusal};
 
-use vocabulary::{Layer, Refusal};
+use std::error::Error;
+use std::fmt;
+use vocabulary::{Layer, Reason, Refusal};
 
 // The first faulty item of a body, with its offset there. An item is a code, a count, a direction byte or a
 // name number.
-#[derive(Clone, Copy)]
+#[derive(Clone, Copy, Debug, PartialEq, Eq, Hash)]
 pub enum ItemFault {
     // a term is due with 24 others around it
     TooDeep(usize),
@@ -25,18 +28,29 @@ impl ItemFault {
     pub fn refusal(self) -> Refusal
         ensures { result ≡ item_refusal self }
     {
-        let (number, place) = match self {
-            ItemFault::TooDeep(at) => (10, at),
-            ItemFault::CutShort(at) => (11, at),
-            ItemFault::UnknownCode(at) => (12, at),
-            ItemFault::UnknownDirection(at) => (13, at),
-            ItemFault::WrongName(at) => (14, at),
-            ItemFault::ZeroCount(at) => (15, at),
+        let (reason, place) = match self {
+            ItemFault::TooDeep(at) => (Reason::TooDeep, at),
+            ItemFault::CutShort(at) => (Reason::ItemCutShort, at),
+            ItemFault::UnknownCode(at) => (Reason::UnknownCode, at),
+            ItemFault::UnknownDirection(at) => (Reason::UnknownDirection, at),
+            ItemFault::WrongName(at) => (Reason::WrongName, at),
+            ItemFault::ZeroCount(at) => (Reason::ZeroCount, at),
         };
         Refusal {
-            number,
+            reason,
             layer: Layer::Item,
             place,
         }
     }
 }
+
+impl fmt::Display for ItemFault {
+    ghost output = { λ f. Some (reason_text (item_refusal f).reason) };
+
+    fn fmt<W: fmt::Write>(&self, f: &mut fmt::Formatter<W>) -> fmt::Result {
+        let reason = self.refusal().reason;
+        write!(f, "{reason}")
+    }
+}
+
+impl Error for ItemFault {}

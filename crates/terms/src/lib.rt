@@ -9,7 +9,7 @@ mod table;
 mod term;
 
 pub use axiom::{Axiom, AxiomKind};
-pub use code::{Code, Direction};
+pub use code::{Code, Direction, UnknownCode};
 pub use count::Count;
 pub use fault::ItemFault;
 pub use table::Terms;

@@ -1,13 +1,61 @@
-ghost use Rattle.std.specs.Prelude.{◌≤◌, vec_capacity};
+ghost use Rattle.std.specs.Prelude.{◌≡◌, ℕ, ◌-◌, ◌<◌, [], length, take, IfOk, slice_index_or};
+ghost use Rattle.terms.specs.declared.term.Term.TheVariants.{Nothing};
+ghost use Rattle.terms.specs.Forms.{form, shape};
+ghost use Rattle.terms.specs.Tables.{nodes_of, Pushed};
 
-use crate::term::Term;
-
-mod nodes;
+use crate::term::{Term, TermId};
+use bounded::Bounded;
+use std::alloc::{AllocError, Global};
 
 // The nodes of all terms of a book: 32,768 for the bodies that are filed, and 512 for one that is being read. Each
-// node takes at least one byte of its body, so there is room.
+// node takes at least one byte of its body, so there is room. Terms lie in a table, and not in boxes of their own,
+// since no memory may be claimed after a book is opened.
 #[derive(Drop)]
 pub struct Terms {
-    nodes: Vec<Term>,
-    ghost room: { 33280 ≤ vec_capacity nodes },
+    nodes: Bounded<Term, 33280>,
+}
+
+impl Terms {
+    // An empty table, with room for every node that it will ever hold.
+    pub fn new(heap: Global) -> Result<Terms, AllocError>
+        ensures { IfOk result (λ t. nodes_of t ≡ []) }
+    {
+        Ok(Terms {
+            nodes: Bounded::new(heap)?,
+        })
+    }
+
+    // How many nodes there are.
+    pub fn count(&self) -> usize
+        ensures { result ≡ length (nodes_of self.now) }
+    {
+        self.nodes.len()
+    }
+
+    // The node at a place, and ⊥ where there is none: no term of a book names such a place, and an `Option` would be a branch
+    // at every node that never comes.
+    pub fn at(&self, id: TermId) -> Term
+        ensures value { result ≡ slice_index_or (nodes_of self.now) id.0 Nothing }
+        ensures tree { (n : ℕ) → 0 < n → form n (nodes_of self.now) id ≡ shape (form (n - 1) (nodes_of self.now)) result }
+    {
+        self.nodes
+            .get(usize::from(id.0))
+            .copied()
+            .unwrap_or(Term::Nothing)
+    }
+
+    // Adds a node, unless there are 33,280 already.
+    pub fn push(&mut self, node: Term) -> Option<TermId>
+        ensures { Pushed (nodes_of self.old) node result (nodes_of self.new) }
+    {
+        let at = self.nodes.push(node)?;
+        Some(TermId(at as u16))
+    }
+
+    // Keeps the first nodes, so many, and drops the others.
+    pub fn truncate(&mut self, count: usize)
+        ensures { nodes_of self.new ≡ take count (nodes_of self.old) }
+    {
+        self.nodes.truncate(count);
+    }
 }

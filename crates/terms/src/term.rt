@@ -1,19 +1,33 @@
+ghost use Rattle.std.specs.Prelude.{◌≡◌};
+ghost use Rattle.terms.specs.Roles.{role_name};
+
 use crate::count::Count;
 use vocabulary::NameId;
 
-// A role, or its inverse.
-#[derive(Clone, Copy)]
+// A role, or its inverse: a variant for each way round, as the definitions of terms have them.
+#[derive(Clone, Copy, Debug, PartialEq, Eq, Hash)]
 pub enum RoleItem {
     Forward(NameId),
     Inverse(NameId),
 }
 
+impl RoleItem {
+    // The name of the role, whichever way round it is taken.
+    pub fn name(self) -> NameId
+        ensures { result ≡ role_name self }
+    {
+        match self {
+            RoleItem::Forward(name) | RoleItem::Inverse(name) => name,
+        }
+    }
+}
+
 // Where a term lies in its table.
-#[derive(Clone, Copy)]
+#[derive(Clone, Copy, Debug, PartialEq, Eq, Hash)]
 pub struct TermId(pub u16);
 
 // One node of a term; the terms inside it lie in the same table.
-#[derive(Clone, Copy)]
+#[derive(Clone, Copy, Debug, PartialEq, Eq, Hash)]
 pub enum Term {
     Nothing,
     Everything,

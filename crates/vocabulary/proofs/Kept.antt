@@ -1,34 +1,23 @@
 -- What the table of names keeps, over lists of names.
-use Rattle.std.proofs.Common.{◌≡◌, ℕ, zero, suc, ◌<◌, ◌≤◌, Bool, true, false, cond, not, ◌||◌, eqb, List, [], ◌∷◌, ◌++◌, map, length, get_or, set, Some, None, Ok, Err, refl, ap, ◌∙◌, arith}
+use Rattle.std.proofs.Common.{◌≡◌, ℕ, zero, suc, ◌<◌, ◌≤◌, Bool, true, false, cond, not, ◌||◌, eqb, List, [], ◌∷◌, ◌++◌, map, length, get_or, set, Some, None, Ok, Err, Option, IsSome, OnSome, IfNone, length-append, sym, refl, ap, ◌∙◌, arith}
+use Rattle.std.specs.List.{list_any}
 use Rattle.std.specs.Str.{bytes_eq}
 use Rattle.std.specs.Option.{option_map}
 use Rattle.vocabulary.specs.declared.kind.Kind.{Kind}
 use Rattle.vocabulary.specs.declared.name.Name.{Name}
 use Rattle.std.proofs.lemmas.Bool.{and_parts, and_from, or_parts, or_from, not-true, not_from_false}
+use Rattle.std.proofs.lemmas.Option.{slice_get_past}
 use Rattle.std.proofs.lemmas.List.{map_push}
 use Rattle.std.proofs.lemmas.Bool.Decides.{nat_tests}
 use Rattle.vocabulary.specs.Kinds.{code_of}
-use Rattle.vocabulary.proofs.Scans.{any_append}
+use Rattle.std.proofs.lemmas.List.Folds.{list_any-append, list_any_at}
 use Rattle.vocabulary.specs.declared.fault.NameFault.TheVariants.{LabelLength, LabelByte}
 use Rattle.vocabulary.specs.Labels.{fitting, graphics}
-use Rattle.vocabulary.specs.Entities.{labelling, label_of, Entity, entity, held, distinct, named, entity_at, kind_at, reseed}
+use Rattle.vocabulary.specs.Entities.{labelling, label_of, Entity, entity, held, distinct, named, kind_at, reseed}
 
--- the name with a number that is in use, and with one that is not
-pub entity_within : (ns : List Name) (i : ℕ) (n : Name) → i < length ns → n ≡ get_or ns i n → Some (entity n) ≡ entity_at (map entity ns) i
-entity_within [] i n h e = absurd (omega arith)
-entity_within (x ∷ ns) zero n h e = ap (λ (m : Name). Some (entity m)) e
-entity_within (x ∷ ns) (suc i) n h e = entity_within ns i n (omega arith) e
-
-pub entity_past : (es : List Entity) (i : ℕ) → length es ≤ i → None ≡ entity_at es i
-entity_past [] i h = refl
-entity_past (x ∷ es) zero h = absurd (omega arith)
-entity_past (x ∷ es) (suc i) h = entity_past es i (omega arith)
-
-pub kind_within : (ns : List Name) (i : ℕ) (n : Name) → i < length ns → n ≡ get_or ns i n → Some n.kind ≡ kind_at (map entity ns) i
-kind_within ns i n h e = ap (option_map (λ (d : Entity). d.kind)) (entity_within ns i n h e)
-
+-- no name has a number past the last
 pub kind_past : (es : List Entity) (i : ℕ) → length es ≤ i → None ≡ kind_at es i
-kind_past es i h = ap (option_map (λ (d : Entity). d.kind)) (entity_past es i h)
+kind_past es i h = sym (ap (option_map (λ (d : Entity). d.kind)) (slice_get_past es i h))
 
 eqb_sym : (a b : ℕ) → eqb a b ≡ eqb b a
 eqb_sym a b = grind (arith, nat_tests)
@@ -50,7 +39,7 @@ distinct_push (d ∷ es) e h n =
     let p = and_parts (not (held d.kind d.label es)) (distinct es) h in
     let q = or_parts (named e.kind e.label d) (held e.kind e.label es) n in
     let apart : (held d.kind d.label (es ++ e ∷ [])) ≡ false =
-    any_append (named d.kind d.label) es (e ∷ []) ∙ or_from _ _ (not-true _ p.0) (or_from _ _ (alike d e ∙ q.0) refl) in
+    list_any-append (named d.kind d.label) es (e ∷ []) ∙ or_from _ _ (not-true _ p.0) (or_from _ _ (alike d e ∙ q.0) refl) in
     and_from _ _ (not_from_false _ apart) (distinct_push es e p.1 q.1)
 
 pub names_push : (ns later : List Name) (n : Name) → later ≡ ns ++ n ∷ [] → distinct (map entity ns) ≡ true → held n.kind (label_of n.label) (map entity ns) ≡ false → distinct (map entity later) ≡ true
@@ -101,3 +90,16 @@ names_reseed (x ∷ ns) (suc i) n m on h e s = ap (λ l. entity x ∷ l) (names_
 
 pub reseed_apart : (ns later : List Name) (n : ℕ) (on : Bool) → map entity later ≡ reseed (map entity ns) n on → distinct (map entity ns) ≡ true → distinct (map entity later) ≡ true
 reseed_apart ns later n on e h = ap distinct e ∙ reseed_distinct (map entity ns) n on ∙ h
+
+-- a test of the names is one of the table's entries
+pub held_names : (k : Kind) (l : List ℕ) (ns : List Name) → list_any (λ n. named k l (entity n)) ns ≡ held k l (map entity ns)
+held_names k l [] = refl
+held_names k l (n ∷ ns) = ap (λ b. named k l (entity n) || b) (held_names k l ns)
+
+pub held_at : (k : Kind) (l : List ℕ) (ns : List Name) (i : ℕ) (n : Name) → i < length ns → n ≡ get_or ns i n → named k l (entity n) ≡ true → true ≡ held k l (map entity ns)
+held_at k l ns i n h e t = sym (sym (held_names k l ns) ∙ list_any_at (λ m. named k l (entity m)) ns i n h (ap (λ m. named k l (entity m)) (sym e) ∙ t))
+
+-- a name was added where there was room
+pub names_pushed : (limit : ℕ) (r : Option ℕ) (ns later : List Name) (n : Name) → limit ≤ 1024 → (IsSome r → length ns < limit) → OnSome r (later ≡ ns ++ n ∷ []) → IfNone r (later ≡ ns) → length ns ≤ 1024 → distinct (map entity ns) ≡ true → held n.kind (label_of n.label) (map entity ns) ≡ false → (length later ≤ 1024) × (distinct (map entity later) ≡ true)
+names_pushed limit (Some k) ns later n most room e stay few h clear = (omega (arith, room refl, ap length e, length-append ns (n ∷ [])), names_push ns later n e h clear)
+names_pushed limit None ns later n most room e stay few h clear = (rw stay few, ap (λ (l : List Name). distinct (map entity l)) stay ∙ h)

@@ -1,31 +1,30 @@
 -- Naming, outcome by outcome.
-use Rattle.std.proofs.Common.{◌≡◌, ℕ, ◌<◌, ◌≤◌, true, false, List, [], ◌∷◌, ◌++◌, length, Some, None, Ok, Err, refl, ◌∙◌, le-leb}
+use Rattle.std.proofs.Common.{◌≡◌, ℕ, ◌<◌, ◌≤◌, true, false, List, [], ◌∷◌, ◌++◌, length, Ok, Err, refl, ◌∙◌, le-leb}
 use borrow.Author.Tests.{lt-leb}
 use Rattle.vocabulary.specs.declared.kind.Kind.{Kind}
 use Rattle.vocabulary.specs.declared.fault.NameFault.{NameFault}
-use Rattle.vocabulary.specs.declared.fault.NameFault.TheVariants.{BadKind, LabelTaken, TableFull}
-use Rattle.vocabulary.specs.Kinds.{kind_of}
-use Rattle.vocabulary.specs.Entities.{Entity, labelling, held}
+use Rattle.vocabulary.specs.declared.fault.NameFault.TheVariants.{LabelTaken, TableFull}
+use Rattle.vocabulary.specs.Entities.{Entity, kinding, labelling, held}
 use Rattle.vocabulary.specs.Naming.{naming, adding, accepted, refused, fresh}
 
 module _ (es : List Entity) (b : ℕ) (l : List ℕ) where
-  pub naming_bad_kind : None ≡ kind_of b → naming es b l ≡ refused es BadKind
+  pub naming_bad_kind : (f : NameFault) → Err f ≡ kinding b → naming es b l ≡ refused es f
   unfolding naming
-  naming_bad_kind e = rw (← e) refl
+  naming_bad_kind f e = rw (← e) refl
 
-  pub naming_bad_label : (k : Kind) (f : NameFault) → Some k ≡ kind_of b → Err f ≡ labelling l → naming es b l ≡ refused es f
+  pub naming_bad_label : (k : Kind) (f : NameFault) → Ok k ≡ kinding b → Err f ≡ labelling l → naming es b l ≡ refused es f
   unfolding naming
   naming_bad_label k f e h = rw (← e, ← h) refl
 
-  adds : (k : Kind) (m : List ℕ) → Some k ≡ kind_of b → Ok m ≡ labelling l → naming es b l ≡ adding es k m
+  adds : (k : Kind) (m : List ℕ) → Ok k ≡ kinding b → Ok m ≡ labelling l → naming es b l ≡ adding es k m
   unfolding naming
   adds k m e h = rw (← e, ← h) refl
 
-  pub naming_taken : (k : Kind) (m : List ℕ) → Some k ≡ kind_of b → Ok m ≡ labelling l → held k m es ≡ true → naming es b l ≡ refused es LabelTaken
+  pub naming_taken : (k : Kind) (m : List ℕ) → Ok k ≡ kinding b → Ok m ≡ labelling l → held k m es ≡ true → naming es b l ≡ refused es LabelTaken
   naming_taken k m e h t = adds k m e h ∙ rw t refl
 
-  pub naming_full : (k : Kind) (m : List ℕ) → Some k ≡ kind_of b → Ok m ≡ labelling l → held k m es ≡ false → 1024 ≤ length es → naming es b l ≡ refused es TableFull
+  pub naming_full : (k : Kind) (m : List ℕ) → Ok k ≡ kinding b → Ok m ≡ labelling l → held k m es ≡ false → 1024 ≤ length es → naming es b l ≡ refused es TableFull
   naming_full k m e h t full = adds k m e h ∙ rw (t, le-leb 1024 (length es) full) refl
 
-  pub naming_done : (k : Kind) (m : List ℕ) → Some k ≡ kind_of b → Ok m ≡ labelling l → held k m es ≡ false → length es < 1024 → naming es b l ≡ accepted (es ++ fresh k m ∷ []) (record { 0 = length es })
+  pub naming_done : (k : Kind) (m : List ℕ) → Ok k ≡ kinding b → Ok m ≡ labelling l → held k m es ≡ false → length es < 1024 → naming es b l ≡ accepted (es ++ fresh k m ∷ []) (record { 0 = length es })
   naming_done k m e h t room = adds k m e h ∙ rw (t, lt-leb 1024 (length es) room) refl

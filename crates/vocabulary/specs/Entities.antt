@@ -1,14 +1,14 @@
 -- The names of a book: each has a kind, a label, and stands in the signature or not.
-use Rattle.std.specs.Prelude.{ℕ, zero, suc, Bool, true, cond, not, ◌&&◌, List, [], ◌∷◌, take, Some, None, Ok, Err, Option, Result}
+use Rattle.std.specs.Prelude.{ℕ, zero, suc, Bool, true, cond, not, ◌&&◌, List, [], ◌∷◌, take, Ok, Err, Option, Result, slice_get}
+use Rattle.std.specs.List.{list_any}
 use Rattle.std.specs.Str.{bytes_eq}
-use Rattle.std.specs.Option.{option_map}
+use Rattle.std.specs.Option.{ok_or, option_map}
 use Rattle.vocabulary.specs.declared.fault.NameFault.{NameFault}
-use Rattle.vocabulary.specs.declared.fault.NameFault.TheVariants.{LabelLength, LabelByte}
+use Rattle.vocabulary.specs.declared.fault.NameFault.TheVariants.{BadKind, LabelLength, LabelByte}
 use Rattle.vocabulary.specs.declared.kind.Kind.{Kind}
 use Rattle.vocabulary.specs.declared.label.Label.{Label}
 use Rattle.vocabulary.specs.declared.name.Name.{Name}
-use Rattle.vocabulary.specs.Kinds.{same_kind}
-use Rattle.vocabulary.specs.Lists.{any}
+use Rattle.vocabulary.specs.Kinds.{kind_of, same_kind}
 use Rattle.vocabulary.specs.Labels.{fitting, graphics}
 
 -- a name: `seeded` says that it stands in the signature
@@ -22,6 +22,10 @@ label_of l = take l.len l.bytes
 
 abbrev pub entity : Name → Entity
 entity n = record { kind = n.kind; label = label_of n.label; seeded = n.seeded }
+
+-- the kind that a byte stands for, or what is wrong with it
+abbrev pub kinding : ℕ → Result Kind NameFault
+kinding b = ok_or (kind_of b) BadKind
 
 -- a label's bytes, or what is wrong with them: the length is looked at first
 abbrev pub labelling : List ℕ → Result (List ℕ) NameFault
@@ -37,7 +41,7 @@ named k l e = same_kind e.kind k && bytes_eq e.label l
 
 -- one of the names has this kind and this label
 abbrev pub held : Kind → List ℕ → List Entity → Bool
-held k l es = any (named k l) es
+held k l es = list_any (named k l) es
 
 -- no two names have both kind and label in common
 abbrev pub distinct : List Entity → Bool
@@ -46,9 +50,7 @@ distinct (e ∷ es) = not (held e.kind e.label es) && distinct es
 
 -- the name with a number, if there is one
 abbrev pub entity_at : List Entity → ℕ → Option Entity
-entity_at [] n = None
-entity_at (e ∷ es) zero = Some e
-entity_at (e ∷ es) (suc n) = entity_at es n
+entity_at es n = slice_get es n
 
 -- its kind
 abbrev pub kind_at : List Entity → ℕ → Option Kind

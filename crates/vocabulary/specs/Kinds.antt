@@ -1,5 +1,5 @@
 -- The kinds of names, and the byte that stands for each.
-use Rattle.std.specs.Prelude.{ℕ, Bool, cond, Some, None, Option, ◌==◌}
+use Rattle.std.specs.Prelude.{ℕ, List, codes, Bool, cond, Some, None, Option, ◌==◌}
 use Rattle.vocabulary.specs.declared.kind.Kind.{Kind}
 use Rattle.vocabulary.specs.declared.kind.Kind.TheVariants.{Concept, Role, Individual}
 
@@ -11,6 +11,11 @@ abbrev pub code_of : Kind → ℕ
 code_of Concept = 0
 code_of Role = 1
 code_of Individual = 2
+
+abbrev pub kind_text : Kind → List ℕ
+kind_text Concept = codes "concept"
+kind_text Role = codes "role"
+kind_text Individual = codes "individual"
 
 abbrev pub same_kind : Kind → Kind → Bool
 same_kind k l = code_of k == code_of l

@@ -1,4 +1,3 @@
-pub mod Lists
 pub mod Kinds
 pub mod Labels
 pub mod Entities

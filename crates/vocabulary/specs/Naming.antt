@@ -1,15 +1,14 @@
 -- What naming, seeding and unseeding do to the names of a book, and what they answer.
-use Rattle.std.specs.Prelude.{◌≡◌, ℕ, false, cond, List, [], ◌∷◌, ◌++◌, map, length, Some, None, Ok, Err, vec_items, Option, Result, nat_le}
+use Rattle.std.specs.Prelude.{◌≡◌, ℕ, false, cond, List, [], ◌∷◌, ◌++◌, map, length, Ok, Err, Result, nat_le}
 use Rattle.vocabulary.specs.declared.kind.Kind.{Kind}
 use Rattle.vocabulary.specs.declared.name.NameId.{NameId}
 use Rattle.vocabulary.specs.declared.fault.NameFault.{NameFault}
-use Rattle.vocabulary.specs.declared.fault.NameFault.TheVariants.{BadKind, LabelTaken, TableFull}
+use Rattle.vocabulary.specs.declared.fault.NameFault.TheVariants.{LabelTaken, TableFull}
 use Rattle.vocabulary.specs.declared.table.Vocabulary.{Vocabulary}
-use Rattle.vocabulary.specs.Kinds.{kind_of}
-use Rattle.vocabulary.specs.Entities.{Entity, entity, held, labelling}
+use Rattle.vocabulary.specs.Entities.{Entity, entity, held, kinding, labelling}
 
 abbrev pub entities : Vocabulary → List Entity
-entities v = map entity (vec_items v.names)
+entities v = map entity v.names
 
 -- what one call does: the state it leaves, and its answer
 pub record Turn (S A F : Type 0) : Type 0 where
@@ -35,14 +34,14 @@ adding es k l =
     (accepted (es ++ fresh k l ∷ []) (record { 0 = length es })))
 
 -- the kind is looked at first, then the label, then the names that there are
-abbrev pub naming_with : List Entity → Option Kind → Result (List ℕ) NameFault → Turn (List Entity) NameId NameFault
-naming_with es None l = refused es BadKind
-naming_with es (Some k) (Err f) = refused es f
-naming_with es (Some k) (Ok l) = adding es k l
+abbrev pub naming_with : List Entity → Result Kind NameFault → Result (List ℕ) NameFault → Turn (List Entity) NameId NameFault
+naming_with es (Err f) l = refused es f
+naming_with es (Ok k) (Err f) = refused es f
+naming_with es (Ok k) (Ok l) = adding es k l
 
 -- naming with a kind byte and a label
 unfoldable pub naming : List Entity → ℕ → List ℕ → Turn (List Entity) NameId NameFault
-naming es b l = naming_with es (kind_of b) (labelling l)
+naming es b l = naming_with es (kinding b) (labelling l)
 
 -- the table holds what the turn leaves, and r is its answer
 pub record Gives (v : Vocabulary) (r : Result NameId NameFault) (turn : Turn (List Entity) NameId NameFault) : Type 0 where

@@ -1,10 +1,12 @@
-ghost use Rattle.std.specs.Prelude.{◌≡◌};
-ghost use Rattle.vocabulary.specs.Refusals.{name_refusal};
+ghost use Rattle.std.specs.Prelude.{◌≡◌, Some};
+ghost use Rattle.vocabulary.specs.Refusals.{name_refusal, reason_text};
 
-use crate::refusal::{Layer, Refusal};
+use crate::refusal::{Layer, Reason, Refusal};
+use std::error::Error;
+use std::fmt;
 
 // Why a name is refused.
-#[derive(Clone, Copy)]
+#[derive(Clone, Copy, Debug, PartialEq, Eq, Hash)]
 pub enum NameFault {
     // the kind byte is missing or stands for no kind
     BadKind,
@@ -22,17 +24,28 @@ impl NameFault {
     pub fn refusal(self) -> Refusal
         ensures { result ≡ name_refusal self }
     {
-        let number = match self {
-            NameFault::BadKind => 5,
-            NameFault::LabelLength => 6,
-            NameFault::LabelByte => 7,
-            NameFault::LabelTaken => 8,
-            NameFault::TableFull => 9,
+        let reason = match self {
+            NameFault::BadKind => Reason::BadKind,
+            NameFault::LabelLength => Reason::LabelLength,
+            NameFault::LabelByte => Reason::LabelByte,
+            NameFault::LabelTaken => Reason::LabelTaken,
+            NameFault::TableFull => Reason::NamesFull,
         };
         Refusal {
-            number,
+            reason,
             layer: Layer::Book,
             place: 0,
         }
     }
 }
+
+impl fmt::Display for NameFault {
+    ghost output = { λ f. Some (reason_text (name_refusal f).reason) };
+
+    fn fmt<W: fmt::Write>(&self, f: &mut fmt::Formatter<W>) -> fmt::Result {
+        let reason = self.refusal().reason;
+        write!(f, "{reason}")
+    }
+}
+
+impl Error for NameFault {}

@@ -1,35 +1,51 @@
-ghost use Rattle.std.specs.Prelude.{◌≡◌};
-ghost use Rattle.vocabulary.specs.Kinds.{kind_of, code_of};
+ghost use Rattle.std.specs.Prelude.{◌≡◌, Some};
+ghost use Rattle.vocabulary.specs.Entities.{kinding};
+ghost use Rattle.vocabulary.specs.Kinds.{code_of, kind_text};
+
+use crate::fault::NameFault;
+use std::fmt;
 
 // What a name stands for: a set of things, a relation between things, or one thing.
-#[derive(Clone, Copy, PartialEq, Eq)]
+#[derive(Clone, Copy, Debug, PartialEq, Eq, Hash)]
 pub enum Kind {
     Concept,
     Role,
     Individual,
 }
 
-impl Kind {
-    // The kind that a byte stands for, if any.
-    pub fn from_byte(byte: u8) -> Option<Kind>
-        ensures { result ≡ kind_of byte }
-    {
+// The kind that a byte stands for, or what is wrong with it.
+impl TryFrom<u8> for Kind {
+    type Error = NameFault;
+
+    ghost try_from_gives = { λ byte r. r ≡ kinding byte };
+
+    fn try_from(byte: u8) -> Result<Kind, NameFault> {
         match byte {
-            0 => Some(Kind::Concept),
-            1 => Some(Kind::Role),
-            2 => Some(Kind::Individual),
-            _ => None,
+            0 => Ok(Kind::Concept),
+            1 => Ok(Kind::Role),
+            2 => Ok(Kind::Individual),
+            _ => Err(NameFault::BadKind),
         }
     }
+}
 
-    // The byte that stands for this kind.
-    pub fn to_byte(self) -> u8
-        ensures { result ≡ code_of self }
-    {
-        match self {
-            Kind::Concept => 0,
-            Kind::Role => 1,
-            Kind::Individual => 2,
-        }
+// The byte that stands for a kind.
+impl From<Kind> for u8 {
+    ghost from_gives = { λ kind byte. byte ≡ code_of kind };
+
+    fn from(kind: Kind) -> u8 {
+        kind as u8
+    }
+}
+
+impl fmt::Display for Kind {
+    ghost output = { λ kind. Some (kind_text kind) };
+
+    fn fmt<W: fmt::Write>(&self, f: &mut fmt::Formatter<W>) -> fmt::Result {
+        f.write_str(match self {
+            Kind::Concept => "concept",
+            Kind::Role => "role",
+            Kind::Individual => "individual",
+        })
     }
 }

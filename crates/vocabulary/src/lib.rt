@@ -12,5 +12,5 @@ pub use fault::NameFault;
 pub use kind::Kind;
 pub use label::Label;
 pub use name::{Name, NameId};
-pub use refusal::{Layer, Refusal};
-pub use table::Vocabulary;
+pub use refusal::{Layer, Reason, Refusal};
+pub use table::{NoSuchName, Vocabulary};

@@ -1,15 +1,108 @@
-ghost use Rattle.std.specs.Prelude.{◌≡◌, ◌≤◌, true, map, vec_len, vec_capacity};
-ghost use Rattle.vocabulary.specs.Entities.{entity, distinct};
+ghost use Rattle.std.specs.Prelude.{◌≡◌, ◌≤◌, true, [], map, length, IfOk, is_ok, nat_lt};
+ghost use Rattle.std.specs.Option.{option_map};
+ghost use Rattle.vocabulary.specs.Entities.{entity, entity_at, distinct, held, kind_at, reseed};
 
-mod calls;
-
-use crate::name::Name;
+use crate::fault::NameFault;
+use crate::kind::Kind;
+use crate::label::Label;
+use crate::name::{Name, NameId};
+use bounded::Bounded;
+use std::alloc::{AllocError, Global};
 
 // The names of a book by number: at most 1,024, no two of them with the same kind and label.
 #[derive(Drop)]
 pub struct Vocabulary {
-    names: Vec<Name>,
-    ghost room: { 1024 ≤ vec_capacity names },
-    ghost few: { vec_len names ≤ 1024 },
-    ghost apart: { distinct (map entity names.items) ≡ true },
+    names: Bounded<Name, 1024>,
+    // as the table's own invariant says; lemmas about names need it of the value
+    ghost few: { length names ≤ 1024 },
+    ghost apart: { distinct (map entity names) ≡ true },
+}
+
+// No name has the number.
+#[derive(Clone, Copy, Debug, PartialEq, Eq, Hash)]
+pub struct NoSuchName;
+
+impl Vocabulary {
+    ghost use Rattle.vocabulary.specs.Naming.{entities, naming, Gives};
+
+    // An empty table, with room for every name that it will ever hold.
+    pub fn new(heap: Global) -> Result<Vocabulary, AllocError>
+        ensures { IfOk result (λ v. entities v ≡ []) }
+    {
+        Ok(Vocabulary {
+            names: Bounded::new(heap)?,
+        })
+    }
+
+    // How many names there are, at most 1,024.
+    pub fn count(&self) -> usize
+        ensures value { result ≡ length (entities self.now) }
+        ensures bound { result ≤ 1024 }
+    {
+        self.names.len()
+    }
+
+    // The names in the order of their numbers, at most 1,024.
+    pub fn as_slice(&self) -> &[Name]
+        ensures value { map entity result.now ≡ entities self.now }
+        ensures bound { length result.now ≤ 1024 }
+    {
+        self.names.as_slice()
+    }
+
+    // The name with a number, if there is one.
+    pub fn get(&self, id: NameId) -> Option<&Name>
+        ensures { option_map (λ n. entity n.now) result ≡ entity_at (entities self.now) id.0 }
+    {
+        self.names.get(usize::from(id.0))
+    }
+
+    // The kind of the name with a number, if there is one.
+    pub fn kind_of(&self, id: NameId) -> Option<Kind>
+        ensures { result ≡ kind_at (entities self.now) id.0 }
+    {
+        self.get(id).map(|name| name.kind)
+    }
+
+    // Whether a name has this kind and this label. The names are gone through: a map beside them would claim memory.
+    fn holds(&self, kind: Kind, label: &[u8]) -> bool
+        ensures { result ≡ held kind label.now (entities self.now) }
+    {
+        // `any`, with both the kind and the label in its closure, leaves a goal that no lemma closes
+        for name in self.names.as_slice() {
+            if name.is(kind, label) {
+                return true;
+            }
+        }
+        false
+    }
+
+    // Makes a name of a kind byte and a label; it is not seeded. Any byte may be passed, since refusing it is this call's
+    // promise.
+    pub fn name(&mut self, kind: u8, label: &[u8]) -> Result<NameId, NameFault>
+        ensures { Gives self.new result (naming (entities self.old) kind label.now) }
+    {
+        let kind = Kind::try_from(kind)?;
+        let checked = Label::try_from(label)?;
+        if self.holds(kind, label) {
+            return Err(NameFault::LabelTaken);
+        }
+        let name = Name {
+            kind,
+            label: checked,
+            seeded: false,
+        };
+        let number = self.names.push(name).ok_or(NameFault::TableFull)?;
+        Ok(NameId(number as u16))
+    }
+
+    // Puts a name into the signature or takes it out.
+    pub fn set_seeded(&mut self, id: NameId, on: bool) -> Result<(), NoSuchName>
+        ensures after { entities self.new ≡ reseed (entities self.old) id.0 on }
+        ensures value { is_ok result ≡ nat_lt id.0 (length (entities self.old)) }
+    {
+        let name = self.names.get_mut(usize::from(id.0)).ok_or(NoSuchName)?;
+        name.seeded = on;
+        Ok(())
+    }
 }

@@ -9,7 +9,7 @@ pub const USAGE: &str = "usage:
   winavulor run SCRIPT     perform the calls of a script, and answer each
   winavulor help           print this text";
 
-#[derive(Clone, Copy)]
+#[derive(Clone, Copy, Debug)]
 pub enum Command<'a> {
     Example,
     Help,
@@ -46,8 +46,9 @@ impl<'a> Command<'a> {
     }
 }
 
-// Why words are no command, with the first of them.
-#[derive(Drop)]
+// Why words are no command, with the first of them. It is looked at apart from the commands, since keeping a word claims
+// memory, and reading a command does not.
+#[derive(Debug, Drop)]
 pub enum UsageFault {
     UnknownCommand(String),
     WrongWords(String),

@@ -1,11 +1,12 @@
 // The example that is shown where no command is given: a book of a substation, and every call on it.
-use crate::calls::{Call, Outcome, State, perform};
 use crate::failure::Failure;
 use crate::notation::Listing;
 use crate::told::Told;
-use book::{AxiomId, Draft};
+use book::AxiomId;
+use runs::{Answer, Call, CallFault, Outcome, State};
 use std::alloc::{AllocError, Global};
-use vocabulary::NameId;
+use terms::AxiomKind;
+use vocabulary::{Kind, NameId};
 
 // A book file with 15 records: seven names, a seed and seven axioms.
 const SUBSTATION: &[u8] = b"\
@@ -33,7 +34,8 @@ struct Step {
     call: Call,
 }
 
-fn name(heap: Global, words: &'static str, kind: u8, label: &[u8]) -> Result<Step, AllocError> {
+fn name(heap: Global, words: &'static str, kind: Kind, label: &[u8]) -> Result<Step, AllocError> {
+    let kind = u8::from(kind);
     let label = Vec::from_slice(heap, label)?;
     Ok(Step {
         words,
@@ -41,7 +43,13 @@ fn name(heap: Global, words: &'static str, kind: u8, label: &[u8]) -> Result<Ste
     })
 }
 
-fn file(heap: Global, words: &'static str, kind: u16, body: &[u8]) -> Result<Step, AllocError> {
+fn file(
+    heap: Global,
+    words: &'static str,
+    kind: AxiomKind,
+    body: &[u8],
+) -> Result<Step, AllocError> {
+    let kind = u16::from(kind);
     let body = Vec::from_slice(heap, body)?;
     Ok(Step {
         words,
@@ -60,15 +68,20 @@ fn loading(heap: Global) -> Result<Step, AllocError> {
 // The steps after loading: each call once, and three that are refused or not allowed.
 fn changes(heap: Global) -> Result<Vec<Step>, AllocError> {
     let steps = vec![in heap;
-        name(heap, "name the individual Q2", 2, b"Q2")?,
-        file(heap, "file in(Q1, Q2)", 22, b"\x05\x00\x06\x00\x07\x00")?,
+        name(heap, "name the individual Q2", Kind::Individual, b"Q2")?,
+        file(
+            heap,
+            "file in(Q1, Q2)",
+            AxiomKind::RoleAssertion,
+            b"\x05\x00\x06\x00\x07\x00"
+        )?,
         Step {
             words: "lay axiom 3 aside",
-            call: Call::Aside(AxiomId(3))
+            call: Call::LayAside(AxiomId(3))
         },
         Step {
             words: "lay axiom 7 aside",
-            call: Call::Aside(AxiomId(7))
+            call: Call::LayAside(AxiomId(7))
         },
         Step {
             words: "restore axiom 7",
@@ -82,11 +95,16 @@ fn changes(heap: Global) -> Result<Vec<Step>, AllocError> {
             words: "unseed name 0",
             call: Call::Unseed(NameId(0))
         },
-        name(heap, "name the individual Q2 once more", 2, b"Q2")?,
+        name(
+            heap,
+            "name the individual Q2 once more",
+            Kind::Individual,
+            b"Q2"
+        )?,
         file(
             heap,
             "file a body with a role where a concept is wanted",
-            16,
+            AxiomKind::Inclusion,
             b"\x02\x00\x00\x02\x04\x00"
         )?,
         Step {
@@ -108,16 +126,19 @@ fn changes(heap: Global) -> Result<Vec<Step>, AllocError> {
 // What a refused call has to say beyond its numbers.
 fn refusal(outcome: Outcome) -> Option<Told> {
     match outcome {
-        Outcome::Refused(refusal) | Outcome::LoadRefused(refusal, _) => Some(Told(refusal)),
-        Outcome::Done | Outcome::Counted(_) | Outcome::NotAllowed => None,
+        Err(CallFault::Refused(refusal) | CallFault::LoadRefused(refusal, _)) => {
+            Some(Told(refusal))
+        }
+        Err(CallFault::NotAllowed) | Ok(_) => None,
     }
 }
 
 // Makes the call of a step, and prints the step and its outcome.
 fn take(rt: &HostRuntime, state: State, step: Step) -> Result<State, Failure> {
     let Step { words, call } = step;
-    let (state, outcome) = perform(state, &call);
-    println!(rt; "{words}: {outcome}")?;
+    let (state, outcome) = state.perform(&call);
+    let answer = Answer(outcome);
+    println!(rt; "{words}: {answer}")?;
     if let Some(told) = refusal(outcome) {
         println!(rt; "    {told}")?;
     }
@@ -140,9 +161,9 @@ fn list(rt: &HostRuntime, state: &State) -> Result<(), Failure> {
 
 // Loads the example, shows it, makes every call on it, and shows what came of it.
 pub(crate) fn show(rt: &HostRuntime) -> Result<(), Failure> {
-    let draft = Draft::open(rt.alloc())?;
+    let state = State::open(rt.alloc())?;
     println!(rt; "open a draft: ok")?;
-    let opened = take(rt, State::Draft(draft), loading(rt.alloc())?)?;
+    let opened = take(rt, state, loading(rt.alloc())?)?;
     list(rt, &opened)?;
     println!(rt; "\nevery call, one after the other")?;
     let changed = take_all(rt, opened, changes(rt.alloc())?)?;

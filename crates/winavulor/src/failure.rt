@@ -6,7 +6,7 @@ use records::LoadFault;
 use std::alloc::AllocError;
 use std::{fmt, io};
 
-#[derive(Drop)]
+#[derive(Debug, Drop)]
 pub enum Failure {
     // the words are no command
     Usage(UsageFault),

@@ -1,4 +1,5 @@
-// Bytes written as pairs of hexadecimal digits.
+// Bytes written as pairs of hexadecimal digits. They are read here and not by the library, since which fault of a word is
+// told first is part of what a script is answered.
 ghost use Rattle.std.specs.Prelude.{◌≡◌, ◌<◌, IfSome};
 ghost use Rattle.winavulor.specs.Hex.{digit_of};
 
@@ -34,9 +35,7 @@ pub(crate) fn bytes_of(heap: Global, word: &str) -> Result<Vec<u8>, LineFault> {
         let [high, low] = pair else {
             return Err(LineFault::OddDigits);
         };
-        let Some(byte) = byte_of(*high, *low) else {
-            return Err(LineFault::NotHexadecimal);
-        };
+        let byte = byte_of(*high, *low).ok_or(LineFault::NotHexadecimal)?;
         bytes.push(byte)?;
     }
     Ok(bytes)

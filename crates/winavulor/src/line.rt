@@ -1,13 +1,14 @@
 // A line of a script, read as a call.
-use crate::calls::Call;
 use crate::hex::bytes_of;
 use book::AxiomId;
+use runs::Call;
 use std::alloc::{AllocError, AllocFailed, Global};
+use std::error::Error;
 use std::fmt;
 use vocabulary::NameId;
 
 // Why a line is no call.
-#[derive(Clone, Copy)]
+#[derive(Clone, Copy, Debug, PartialEq, Eq, Hash)]
 pub enum LineFault {
     // the first word is none of the calls
     UnknownCall,
@@ -36,9 +37,9 @@ impl<T: Drop> From<AllocFailed<T>> for LineFault {
     }
 }
 
-impl LineFault {
-    fn words(self) -> &'static str {
-        match self {
+impl fmt::Display for LineFault {
+    fn fmt<W: fmt::Write>(&self, f: &mut fmt::Formatter<W>) -> fmt::Result {
+        f.write_str(match self {
             LineFault::UnknownCall => "the first word is no call",
             LineFault::TooFewWords => "a word is missing",
             LineFault::TooManyWords => "there are words too many",
@@ -47,36 +48,21 @@ impl LineFault {
             LineFault::OddDigits => "a hexadecimal digit has no partner",
             LineFault::NotHexadecimal => "a character is no hexadecimal digit",
             LineFault::Memory => "no memory is left",
-        }
+        })
     }
 }
 
-impl fmt::Display for LineFault {
-    fn fmt<W: fmt::Write>(&self, f: &mut fmt::Formatter<W>) -> fmt::Result {
-        f.write_str(self.words())
-    }
-}
-
-fn is_decimal(word: &str) -> bool {
-    for byte in word.bytes() {
-        if !byte.is_ascii_digit() {
-            return false;
-        }
-    }
-    true
-}
+impl Error for LineFault {}
 
 fn number_of(word: &str) -> Result<u16, LineFault> {
-    if !is_decimal(word) {
+    if !word.bytes().all(|byte| byte.is_ascii_digit()) {
         return Err(LineFault::NotDecimal);
     }
-    match word.parse::<u16>() {
-        Ok(number) => Ok(number),
-        Err(_) => Err(LineFault::TooLarge),
-    }
+    word.parse::<u16>().map_err(|_| LineFault::TooLarge)
 }
 
-// What is left of a line; its words have spaces between them.
+// What is left of a line; its words have spaces between them. The library's pieces of a text are empty between two
+// spaces, and an iterator that leaves those out has a closure in it, so no struct can name its type.
 #[derive(Drop)]
 struct Words<'a> {
     rest: &'a str,
@@ -111,10 +97,7 @@ impl<'a> Words<'a> {
     }
 
     fn byte(&mut self) -> Result<u8, LineFault> {
-        match u8::try_from(self.number()?) {
-            Ok(byte) => Ok(byte),
-            Err(_) => Err(LineFault::TooLarge),
-        }
+        u8::try_from(self.number()?).map_err(|_| LineFault::TooLarge)
     }
 
     fn bytes(&mut self, heap: Global) -> Result<Vec<u8>, LineFault> {
@@ -137,7 +120,7 @@ impl<'a> Words<'a> {
             "load" => Ok(Call::Load {
                 file: self.bytes(heap)?,
             }),
-            "aside" => Ok(Call::Aside(AxiomId(self.number()?))),
+            "aside" => Ok(Call::LayAside(AxiomId(self.number()?))),
             "restore" => Ok(Call::Restore(AxiomId(self.number()?))),
             "seed" => Ok(Call::Seed(NameId(self.number()?))),
             "unseed" => Ok(Call::Unseed(NameId(self.number()?))),

@@ -1,7 +1,6 @@
 // The command line: it shows an example, checks and shows book files, and performs scripts of calls.
 #![tactic(auto)]
 
-mod calls;
 mod command;
 mod example;
 mod failure;
@@ -15,6 +14,7 @@ mod verdicts;
 
 use book::Draft;
 use command::{Command, USAGE, UsageFault};
+use extraction::seeded_names;
 use failure::Failure;
 use notation::Listing;
 use records::load;
@@ -22,7 +22,7 @@ use script::perform_lines;
 use std::process::ExitCode;
 use std::{env, fs, io};
 use tally::Tally;
-use verdicts::{Verdicts, signature};
+use verdicts::Verdicts;
 
 fn read(rt: &HostRuntime, path: &str) -> Result<Vec<u8>, Failure> {
     match fs::read(rt, path) {
@@ -52,10 +52,10 @@ fn check(rt: &HostRuntime, path: &str) -> Result<(), Failure> {
 fn show(rt: &HostRuntime, path: &str) -> Result<(), Failure> {
     let (draft, _) = loaded(rt, path)?;
     let book = draft.book();
-    let listed = signature(rt.alloc(), book)?;
+    let listed = seeded_names(book);
     rt.print(format!(in rt.alloc(); "{}", Listing(book))?)?;
     rt.println("locality against the signature:")?;
-    rt.print(format!(in rt.alloc(); "{}", Verdicts(book, listed.as_slice()))?)?;
+    rt.print(format!(in rt.alloc(); "{}", Verdicts(book, &listed))?)?;
     Ok(())
 }
 

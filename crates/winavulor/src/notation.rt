@@ -1,53 +1,37 @@
 // Names, terms and axioms in the notation of description logics.
-use book::{Book, Filed};
+use book::Book;
 use std::fmt;
 use std::fmt::Formatter;
-use std::str::from_utf8;
 use terms::{Axiom, RoleItem, Term, TermId};
-use vocabulary::{Kind, Name, NameId};
+use vocabulary::{Name, NameId};
 
 // No term of a book has more levels.
 const LEVELS: u8 = 24;
 
-fn kind_word(kind: Kind) -> &'static str {
-    match kind {
-        Kind::Concept => "concept",
-        Kind::Role => "role",
-        Kind::Individual => "individual",
-    }
-}
-
-// The label of a name, which is printable ASCII.
-fn label_text(name: &Name) -> &str {
-    from_utf8(name.label.as_bytes()).unwrap_or("?")
-}
-
-// A name of a book, shown by its label.
+// A part of a book as it is shown, which takes the book's names and terms.
 #[derive(Clone, Copy)]
-struct ShownName<'a>(&'a Book, NameId);
+pub struct Shown<'a, T>(pub &'a Book, pub T);
 
-impl fmt::Display for ShownName<'_> {
+// A name, by its label.
+impl fmt::Display for Shown<'_, NameId> {
     fn fmt<W: fmt::Write>(&self, f: &mut Formatter<W>) -> fmt::Result {
         match self.0.names().get(self.1) {
-            Some(name) => f.write_str(label_text(name)),
+            Some(name) => write!(f, "{label}", label = name.label),
             None => f.write_str("?"),
         }
     }
 }
 
-// A role of a book or the inverse of one.
-#[derive(Clone, Copy)]
-struct ShownRole<'a>(&'a Book, RoleItem);
-
-impl fmt::Display for ShownRole<'_> {
+// A role, or the inverse of one.
+impl fmt::Display for Shown<'_, RoleItem> {
     fn fmt<W: fmt::Write>(&self, f: &mut Formatter<W>) -> fmt::Result {
         match self.1 {
             RoleItem::Forward(id) => {
-                let role = ShownName(self.0, id);
+                let role = Shown(self.0, id);
                 write!(f, "{role}")
             }
             RoleItem::Inverse(id) => {
-                let role = ShownName(self.0, id);
+                let role = Shown(self.0, id);
                 write!(f, "{role}⁻")
             }
         }
@@ -68,11 +52,11 @@ fn write_term<W: fmt::Write>(
         Term::Nothing => f.write_str("⊥"),
         Term::Everything => f.write_str("⊤"),
         Term::Concept(id) => {
-            let concept = ShownName(book, id);
+            let concept = Shown(book, id);
             write!(f, "{concept}")
         }
         Term::Just(id) => {
-            let individual = ShownName(book, id);
+            let individual = Shown(book, id);
             write!(f, "{{{individual}}}")
         }
         Term::Not(term) => {
@@ -87,24 +71,20 @@ fn write_term<W: fmt::Write>(
             f.write_str(")")
         }
         Term::Exists(role, term) => {
-            let role = ShownRole(book, role);
+            let role = Shown(book, role);
             write!(f, "∃{role}.")?;
             write_term(f, book, term, levels - 1)
         }
         Term::AtLeast(count, role, term) => {
             let count = count.get();
-            let role = ShownRole(book, role);
+            let role = Shown(book, role);
             write!(f, "≥{count} {role}.")?;
             write_term(f, book, term, levels - 1)
         }
     }
 }
 
-// A term of a book.
-#[derive(Clone, Copy)]
-struct ShownTerm<'a>(&'a Book, TermId);
-
-impl fmt::Display for ShownTerm<'_> {
+impl fmt::Display for Shown<'_, TermId> {
     fn fmt<W: fmt::Write>(&self, f: &mut Formatter<W>) -> fmt::Result {
         write_term(f, self.0, self.1, LEVELS)
     }
@@ -118,14 +98,15 @@ fn is_open(term: Term) -> bool {
     )
 }
 
-// A term of a book that an argument follows.
+// A term that an argument follows.
 #[derive(Clone, Copy)]
-struct ShownPredicate<'a>(&'a Book, TermId);
+struct Predicate(TermId);
 
-impl fmt::Display for ShownPredicate<'_> {
+impl fmt::Display for Shown<'_, Predicate> {
     fn fmt<W: fmt::Write>(&self, f: &mut Formatter<W>) -> fmt::Result {
-        let term = ShownTerm(self.0, self.1);
-        if is_open(self.0.terms().at(self.1)) {
+        let Predicate(id) = self.1;
+        let term = Shown(self.0, id);
+        if is_open(self.0.terms().at(id)) {
             write!(f, "({term})")
         } else {
             write!(f, "{term}")
@@ -133,46 +114,42 @@ impl fmt::Display for ShownPredicate<'_> {
     }
 }
 
-// An axiom of a book.
-#[derive(Clone, Copy)]
-pub struct ShownAxiom<'a>(pub &'a Book, pub Axiom);
-
-impl fmt::Display for ShownAxiom<'_> {
+impl fmt::Display for Shown<'_, Axiom> {
     fn fmt<W: fmt::Write>(&self, f: &mut Formatter<W>) -> fmt::Result {
         let book = self.0;
         match self.1 {
             Axiom::Inclusion(lower, upper) => {
-                let lower = ShownTerm(book, lower);
-                let upper = ShownTerm(book, upper);
+                let lower = Shown(book, lower);
+                let upper = Shown(book, upper);
                 write!(f, "{lower} ⊑ {upper}")
             }
             Axiom::Equivalence(left, right) => {
-                let left = ShownTerm(book, left);
-                let right = ShownTerm(book, right);
+                let left = Shown(book, left);
+                let right = Shown(book, right);
                 write!(f, "{left} ≡ {right}")
             }
             Axiom::RoleInclusion(narrow, wide) => {
-                let narrow = ShownRole(book, narrow);
-                let wide = ShownRole(book, wide);
+                let narrow = Shown(book, narrow);
+                let wide = Shown(book, wide);
                 write!(f, "{narrow} ⊑ {wide}")
             }
             Axiom::Transitive(id) => {
-                let role = ShownName(book, id);
+                let role = Shown(book, id);
                 write!(f, "Tra({role})")
             }
             Axiom::Functional(role) => {
-                let role = ShownRole(book, role);
+                let role = Shown(book, role);
                 write!(f, "Fun({role})")
             }
             Axiom::ConceptAssertion(id, concept) => {
-                let individual = ShownName(book, id);
-                let concept = ShownPredicate(book, concept);
+                let individual = Shown(book, id);
+                let concept = Shown(book, Predicate(concept));
                 write!(f, "{concept}({individual})")
             }
             Axiom::RoleAssertion(role, from, to) => {
-                let role = ShownName(book, role);
-                let from = ShownName(book, from);
-                let to = ShownName(book, to);
+                let role = Shown(book, role);
+                let from = Shown(book, from);
+                let to = Shown(book, to);
                 write!(f, "{role}({from}, {to})")
             }
         }
@@ -185,13 +162,14 @@ pub struct NameList<'a>(pub &'a Book);
 
 impl fmt::Display for NameList<'_> {
     fn fmt<W: fmt::Write>(&self, f: &mut Formatter<W>) -> fmt::Result {
-        for number in 0..self.0.names().count() {
-            if let Some(name) = self.0.names().get(NameId(number as u16)) {
-                let kind = kind_word(name.kind);
-                let label = label_text(name);
-                let mark = if name.seeded { " (seeded)" } else { "" };
-                writeln!(f, "{number}: {kind} {label}{mark}")?;
-            }
+        for (number, name) in self.0.names().as_slice().iter().enumerate() {
+            let Name {
+                kind,
+                label,
+                seeded,
+            } = *name;
+            let mark = if seeded { " (seeded)" } else { "" };
+            writeln!(f, "{number}: {kind} {label}{mark}")?;
         }
         Ok(())
     }
@@ -204,7 +182,7 @@ pub struct AxiomList<'a>(pub &'a Book);
 impl fmt::Display for AxiomList<'_> {
     fn fmt<W: fmt::Write>(&self, f: &mut Formatter<W>) -> fmt::Result {
         for (number, filed) in self.0.axioms().iter().enumerate() {
-            let axiom = ShownAxiom(self.0, filed.axiom);
+            let axiom = Shown(self.0, filed.axiom);
             let mark = if filed.in_force { "" } else { " (laid aside)" };
             writeln!(f, "{number}: {axiom}{mark}")?;
         }

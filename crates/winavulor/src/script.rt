@@ -1,13 +1,12 @@
 // Scripts: a call to a line, performed one after the other on a book that begins empty.
-use crate::calls::{State, perform};
 use crate::line::{LineFault, call_of};
-use book::Draft;
+use runs::{Answer, State};
 use std::alloc::Global;
 use std::fmt;
 use std::fmt::Write;
 
 // The line that ended a run, counted from 1, and why it did.
-#[derive(Clone, Copy)]
+#[derive(Clone, Copy, Debug)]
 pub struct ScriptFault {
     pub line: usize,
     pub fault: LineFault,
@@ -30,11 +29,10 @@ fn perform_line(
     let Some(call) = call_of(heap, line)? else {
         return Ok(state);
     };
-    let (state, outcome) = perform(state, &call);
-    match writeln!(answers, "{outcome}") {
-        Ok(()) => Ok(state),
-        Err(_) => Err(LineFault::Memory),
-    }
+    let (state, outcome) = state.perform(&call);
+    let answer = Answer(outcome);
+    writeln!(answers, "{answer}").map_err(|_| LineFault::Memory)?;
+    Ok(state)
 }
 
 // Performs the lines of a script, and adds an answer for each call.
@@ -43,21 +41,16 @@ pub(crate) fn perform_lines(
     script: &str,
     answers: &mut String,
 ) -> Result<(), ScriptFault> {
-    let Ok(draft) = Draft::open(heap) else {
-        return Err(ScriptFault {
-            line: 1,
-            fault: LineFault::Memory,
-        });
-    };
-    let mut state = State::Draft(draft);
+    let mut state = State::open(heap).map_err(|_| ScriptFault {
+        line: 1,
+        fault: LineFault::Memory,
+    })?;
     for (before, line) in script.split('\n').enumerate() {
-        state = match perform_line(heap, state, line, answers) {
-            Ok(next) => next,
-            Err(fault) => return Err(ScriptFault {
-                line: before.saturating_add(1),
-                fault,
-            }),
+        let located = |fault: LineFault| ScriptFault {
+            line: before.saturating_add(1),
+            fault,
         };
+        state = perform_line(heap, state, line, answers).map_err(located)?;
     }
     Ok(())
 }

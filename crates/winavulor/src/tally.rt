@@ -1,9 +1,9 @@
 // How much a book holds.
 use book::Book;
 use std::fmt;
-use vocabulary::{Kind, Name, NameId};
+use vocabulary::{Kind, Name};
 
-#[derive(Clone, Copy)]
+#[derive(Clone, Copy, Debug)]
 pub struct Tally {
     concepts: usize,
     roles: usize,
@@ -12,32 +12,21 @@ pub struct Tally {
     axioms: usize,
 }
 
-impl Tally {
-    fn add(&mut self, name: &Name) {
-        let count = match name.kind {
-            Kind::Concept => &mut self.concepts,
-            Kind::Role => &mut self.roles,
-            Kind::Individual => &mut self.individuals,
-        };
-        *count = count.saturating_add(1);
-        self.seeded = self.seeded.saturating_add(usize::from(name.seeded));
-    }
+// How many names are of a kind.
+fn count_of(names: &[Name], kind: Kind) -> usize {
+    names.iter().filter(|name| name.kind == kind).count()
+}
 
+impl Tally {
     pub(crate) fn of(book: &Book) -> Tally {
-        let axioms = book.axioms().len();
-        let mut tally = Tally {
-            concepts: 0,
-            roles: 0,
-            individuals: 0,
-            seeded: 0,
-            axioms,
-        };
-        for number in 0..book.names().count() {
-            if let Some(name) = book.names().get(NameId(number as u16)) {
-                tally.add(name);
-            }
+        let names = book.names().as_slice();
+        Tally {
+            concepts: count_of(names, Kind::Concept),
+            roles: count_of(names, Kind::Role),
+            individuals: count_of(names, Kind::Individual),
+            seeded: names.iter().filter(|name| name.seeded).count(),
+            axioms: book.axioms().len(),
         }
-        tally
     }
 }
 

@@ -1,20 +1,18 @@
-ghost use Rattle.std.specs.Prelude.{◌≡◌, ◌≤◌, ◌++◌, length, take, drop};
+ghost use Rattle.std.specs.Prelude.{◌≡◌, ◌≤◌, length};
 ghost use Rattle.book.specs.Calls.{contents};
 ghost use Rattle.extraction.specs.Extractors.{Meaning};
-ghost use Rattle.part.specs.Writing.{WritesAs, ReadBack, WrittenAgain, writing};
+ghost use Rattle.part.specs.Writing.{WritesAs, ReadBack, WrittenAgain, laid_over, writing};
 
-use crate::writing::lengths::part_len;
-use crate::writing::sections::write_part;
+use crate::writing::sections::Part;
 use book::Frozen;
 use extraction::{Extractor, MarkFault, mark};
 
-// Copies the first flags.
-fn copy_flags(flags: &[u8; 1024], count: usize, bytes: &mut [u8])
-    requires count_bound { count ≤ 1024 }
-    requires count_in_bounds { count ≤ length bytes.old }
-    ensures { bytes.new ≡ take count flags.now ++ drop count bytes.old }
+// Lays bytes over the first of a buffer.
+fn lay_over(bytes: &[u8], buffer: &mut [u8])
+    requires { length bytes.now ≤ length buffer.old }
+    ensures { buffer.new ≡ laid_over bytes.now buffer.old }
 {
-    bytes[0..count].copy_from_slice(&flags[0..count]);
+    buffer[..bytes.len()].copy_from_slice(bytes);
 }
 
 // Marks a frozen book through a pile, and writes the part that the marked axioms make: 1 or 0 for each axiom in one
@@ -35,17 +33,19 @@ pub fn write<E: Extractor>(
     ensures promises { E.Extractor.stages pile.now (contents frozen.now.book) }
 {
     let book = frozen.book();
-    // the flags of any book fit into 1,024 bytes
+    // marked aside first, since a refusal changes no buffer; the flags of any book fit into 1,024 bytes
     let mut kept = [0; 1024];
     let mut closed = [0; 1024];
     mark(frozen, pile, &mut kept, &mut closed)?;
     let axiom_count = book.axioms().len();
     let name_count = book.names().count();
-    let len = part_len(book, &kept);
+    let marked = Part { book, kept: &kept };
+    let len = marked.len();
     if axioms.len() < axiom_count || names.len() < name_count || part.len() < len {
         return Err(MarkFault::ShortBuffer);
     }
-    copy_flags(&kept, axiom_count, axioms);
-    copy_flags(&closed, name_count, names);
-    write_part(book, &kept, part).ok_or(MarkFault::ShortBuffer)
+    lay_over(&kept[..axiom_count], axioms);
+    lay_over(&closed[..name_count], names);
+    marked.write(part);
+    Ok(len)
 }

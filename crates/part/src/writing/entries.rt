@@ -1,94 +1,59 @@
-// Writes records. Each of these writes from a place on, as far as there is room, and answers the place after the record,
-// or None where the room is short.
-ghost use Rattle.std.specs.Prelude.{◌≡◌, ◌<◌, ◌≤◌, length, slice_index_or};
-ghost use Rattle.vocabulary.specs.Entities.{entity_at};
-ghost use Rattle.vocabulary.specs.Naming.{entities};
+// Puts records into a sink.
+ghost use Rattle.std.specs.Prelude.{◌≡◌, ◌≤◌, ◌++◌, length};
+ghost use Rattle.vocabulary.specs.Entities.{entity};
 ghost use Rattle.terms.specs.Forms.{rule};
 ghost use Rattle.terms.specs.Tables.{nodes_of};
-ghost use Rattle.terms.specs.Writing.{body_bytes};
-ghost use Rattle.writer.specs.Placing.{Wrote};
-ghost use Rattle.extraction.specs.Sets.{no_entity};
-ghost use Rattle.part.specs.Parts.{seed_as_record, axiom_as_record};
-ghost use Rattle.part.specs.Writing.{KindOf, flagged, found_record};
+ghost use Rattle.terms.specs.Writing.{two_bytes, body_bytes};
+ghost use Rattle.records.specs.Kinds.{record_number};
+ghost use Rattle.part.specs.Parts.{name_as_record, seed_as_record, axiom_as_record};
 
-use crate::writing::bytes::{put, put_all, put_header, put_number};
+use records::RecordKind;
 use terms::{Axiom, Terms};
-use vocabulary::{NameId, Vocabulary};
-use writer::write_axiom;
+use vocabulary::{Name, NameId};
+use writer::{Length, Sink, put_axiom};
 
-// The record of the name with a number, if there is one.
-pub(crate) fn write_name(names: &Vocabulary, id: NameId, out: &mut [u8], at: usize) -> Option<usize>
-    requires { at ≤ length out.old }
-    ensures { Wrote (found_record (entity_at (entities names.now) id.0)) out.old at result out.new }
+// The length of a record's body, and the record's kind.
+fn put_header<S: Sink>(sink: &mut S, len: u16, kind: RecordKind)
+    ensures { S.takes sink.old (two_bytes len ++ two_bytes (record_number kind)) sink.new }
 {
-    match names.get(id) {
-        Some(name) => {
-            let label = name.label.as_bytes();
-            let start = put_header(out, at, label.len() as u16 + 1, 1)?;
-            let next = put(out, start, name.kind.to_byte())?;
-            put_all(out, next, label)
-        }
-        None => Some(at),
-    }
+    sink.put_number(len);
+    sink.put_number(u16::from(kind));
 }
 
-// Whether the name with a number is in the signature.
-pub(crate) fn is_seeded(names: &Vocabulary, id: NameId) -> bool
-    ensures { result ≡ (slice_index_or (entities names.now) id.0 no_entity).seeded }
+// The record of a name.
+pub(crate) fn put_name<S: Sink>(sink: &mut S, name: &Name)
+    ensures { S.takes sink.old (name_as_record (entity name.now)) sink.new }
 {
-    match names.get(id) {
-        Some(name) => name.seeded,
-        None => false,
-    }
+    let label = name.label.as_bytes();
+    put_header(sink, label.len() as u16 + 1, RecordKind::Name);
+    sink.put(u8::from(name.kind));
+    sink.put_all(label);
 }
 
 // The record that seeds the name with a number.
-pub(crate) fn write_seed(id: NameId, out: &mut [u8], at: usize) -> Option<usize>
-    ensures { Wrote (seed_as_record id.0) out.old at result out.new }
+pub(crate) fn put_seed<S: Sink>(sink: &mut S, id: NameId)
+    ensures { S.takes sink.old (seed_as_record id.0) sink.new }
 {
-    let next = put_header(out, at, 2, 32)?;
-    put_number(out, next, id.0)
-}
-
-// Whether the axiom with a number is marked.
-pub(crate) fn is_kept(kept: &[u8; 1024], number: usize) -> bool
-    requires { number < 1024 }
-    ensures { result ≡ flagged kept.now number }
-{
-    kept[number] == 1
-}
-
-// The record kind of an axiom.
-fn kind_number(axiom: Axiom) -> u16
-    ensures { KindOf «axiom» result }
-{
-    match axiom {
-        Axiom::Inclusion(_, _) => 16,
-        Axiom::Equivalence(_, _) => 17,
-        Axiom::RoleInclusion(_, _) => 18,
-        Axiom::Transitive(_) => 19,
-        Axiom::Functional(_) => 20,
-        Axiom::ConceptAssertion(_, _) => 21,
-        Axiom::RoleAssertion(_, _, _) => 22,
-    }
+    put_header(sink, 2, RecordKind::Seed);
+    sink.put_number(id.0);
 }
 
 // How many bytes the body of an axiom has.
-pub(crate) fn body_len(terms: &Terms, axiom: Axiom) -> usize
+fn body_len(terms: &Terms, axiom: Axiom) -> usize
     requires { length (body_bytes (rule (nodes_of terms.now) «axiom»)) ≤ 512 }
-    ensures value { result ≡ length (body_bytes (rule (nodes_of terms.now) «axiom»)) }
-    ensures bound { result ≤ 512 }
+    ensures { result ≡ length (body_bytes (rule (nodes_of terms.now) «axiom»)) }
 {
-    let mut scratch = [0; 512];
-    write_axiom(terms, axiom, &mut scratch, 0).unwrap()
+    let mut length = Length::default();
+    put_axiom(&mut length, terms, axiom);
+    length.bytes
 }
 
 // The record of an axiom.
-pub(crate) fn write_rule(terms: &Terms, axiom: Axiom, out: &mut [u8], at: usize) -> Option<usize>
+pub(crate) fn put_rule<S: Sink>(sink: &mut S, terms: &Terms, axiom: Axiom)
     requires { length (body_bytes (rule (nodes_of terms.now) «axiom»)) ≤ 512 }
-    ensures { Wrote (axiom_as_record (rule (nodes_of terms.now) «axiom»)) out.old at result out.new }
+    ensures { S.takes sink.old (axiom_as_record (rule (nodes_of terms.now) «axiom»)) sink.new }
 {
-    let len = body_len(terms, axiom) as u16;
-    let next = put_header(out, at, len, kind_number(axiom))?;
-    write_axiom(terms, axiom, out, next)
+    let len = body_len(terms, axiom);
+    put_header(sink, len as u16, RecordKind::Axiom(axiom.kind()));
+    put_axiom(sink, terms, axiom);
 }

@@ -1,63 +1,80 @@
-// The three sections of a part: its names, its seeds and its axioms. Each is written from a place on, as far as there is
-// room; the answer is the place after it, or None where the room is short.
-ghost use Rattle.std.specs.Prelude.{◌≤◌, map, length};
+// The three sections of a part, put into a sink: its names, its seeds and its axioms.
+ghost use Rattle.std.specs.Prelude.{◌≡◌, map, length};
 ghost use Rattle.vocabulary.specs.Naming.{entities};
-ghost use Rattle.book.specs.Calls.{contents};
-ghost use Rattle.writer.specs.Placing.{Wrote};
-ghost use Rattle.part.specs.Parts.{file_bytes, name_entry, seed_entry, seeds_from, part_axioms, part_bytes};
-ghost use Rattle.part.specs.Writing.{flagged};
+ghost use Rattle.writer.specs.Placing.{overlay};
+ghost use Rattle.part.specs.Parts.{file_bytes, name_entry, seed_entry, seeds_from};
 
-use crate::writing::entries::{is_kept, is_seeded, write_name, write_rule, write_seed};
+use crate::writing::entries::{put_name, put_rule, put_seed};
 use book::Book;
 use vocabulary::{NameId, Vocabulary};
+use writer::{Cursor, Length, Sink};
 
 // All names.
-fn write_names(names: &Vocabulary, out: &mut [u8], at: usize) -> Option<usize>
-    requires { at ≤ length out.old }
-    ensures { Wrote (file_bytes (map name_entry (entities names.now))) out.old at result out.new }
+fn put_names<S: Sink>(sink: &mut S, names: &Vocabulary)
+    ensures { S.takes sink.old (file_bytes (map name_entry (entities names.now))) sink.new }
 {
-    let mut next = at;
-    for number in 0..names.count() {
-        next = write_name(names, NameId(number as u16), out, next)?;
+    for name in names.as_slice() {
+        put_name(sink, name);
     }
-    Some(next)
 }
 
 // The seeded names, by their numbers.
-fn write_seeds(names: &Vocabulary, out: &mut [u8], at: usize) -> Option<usize>
-    requires { at ≤ length out.old }
-    ensures { Wrote (file_bytes (map seed_entry (seeds_from 0 (entities names.now)))) out.old at result out.new }
+fn put_seeds<S: Sink>(sink: &mut S, names: &Vocabulary)
+    ensures { S.takes sink.old (file_bytes (map seed_entry (seeds_from 0 (entities names.now)))) sink.new }
 {
-    let mut next = at;
-    for number in 0..names.count() {
+    for (number, name) in names.as_slice().iter().enumerate() {
         let id = NameId(number as u16);
-        if is_seeded(names, id) {
-            next = write_seed(id, out, next)?;
+        if name.seeded {
+            put_seed(sink, id);
         }
     }
-    Some(next)
 }
 
-// The axioms whose flag is 1.
-fn write_axioms(book: &Book, kept: &[u8; 1024], out: &mut [u8], at: usize) -> Option<usize>
-    requires { at ≤ length out.old }
-    ensures { Wrote (part_axioms (contents book.now) (flagged kept.now)) out.old at result out.new }
-{
-    let mut next = at;
-    for (number, filed) in book.axioms().iter().enumerate() {
-        if is_kept(kept, number) {
-            next = write_rule(book.terms(), filed.axiom, out, next)?;
+// The part that the axioms of a book make whose flag is 1.
+#[derive(Clone, Copy)]
+pub(crate) struct Part<'a> {
+    pub(crate) book: &'a Book,
+    // a byte for each axiom, 1 or 0, since that is what marking writes
+    pub(crate) kept: &'a [u8; 1024],
+}
+
+impl Part<'_> {
+    ghost use Rattle.part.specs.Writing.{axioms_written, part_written};
+
+    // Puts the axioms whose flag is 1. A closure that is called for each of them and changes the sink would leave it open
+    // what the sink ends as.
+    fn put_axioms<S: Sink>(&self, sink: &mut S)
+        ensures { S.takes sink.old (axioms_written self.now) sink.new }
+    {
+        for (filed, flag) in self.book.axioms().iter().zip(self.kept) {
+            if *flag == 1 {
+                put_rule(sink, self.book.terms(), filed.axiom);
+            }
         }
     }
-    Some(next)
-}
 
-// The part that the axioms whose flag is 1 make, from the buffer's first byte on.
-pub(crate) fn write_part(book: &Book, kept: &[u8; 1024], out: &mut [u8]) -> Option<usize>
-    ensures { Wrote (part_bytes (contents book.now) (flagged kept.now)) out.old 0 result out.new }
-{
-    let names = book.names();
-    let seeds = write_names(names, out, 0)?;
-    let axioms = write_seeds(names, out, seeds)?;
-    write_axioms(book, kept, out, axioms)
+    fn put<S: Sink>(&self, sink: &mut S)
+        ensures { S.takes sink.old (part_written self.now) sink.new }
+    {
+        put_names(sink, self.book.names());
+        put_seeds(sink, self.book.names());
+        self.put_axioms(sink);
+    }
+
+    // How many bytes the part has.
+    pub(crate) fn len(&self) -> usize
+        ensures { result ≡ length (part_written self.now) }
+    {
+        let mut length = Length::default();
+        self.put(&mut length);
+        length.bytes
+    }
+
+    // The part from the buffer's first byte on, as far as there is room.
+    pub(crate) fn write(&self, out: &mut [u8])
+        ensures { out.new ≡ overlay 0 (part_written self.now) out.old }
+    {
+        let mut cursor = Cursor { out, at: Some(0) };
+        self.put(&mut cursor);
+    }
 }

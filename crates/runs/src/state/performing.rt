@@ -1,79 +1,75 @@
-ghost use Rattle.std.specs.Prelude.{◌≡◌, map, IfOk};
-ghost use Rattle.book.specs.Refusals.{book_refusal, file_refusal};
+ghost use Rattle.std.specs.Prelude.{◌≡◌, map, Err, IfOk};
 ghost use Rattle.book.specs.Calls.{contents};
-ghost use Rattle.records.specs.Stops.{told, load_refusal};
-ghost use Rattle.runs.specs.declared.outcome.Outcome.TheVariants.{Done, Counted, Refused, LoadRefused};
-ghost use Rattle.runs.specs.Steps.{answering, step_of, standing, start, on_draft, on_frozen, performing, performed};
-ghost use Rattle.runs.specs.Performs.{Performs};
+ghost use Rattle.runs.specs.Steps.{step_of, standing, start, on_draft, on_frozen, performing, performed};
+ghost use Rattle.runs.specs.Performs.{Amends, Performs};
+ghost use Rattle.runs.specs.declared.outcome.CallFault.TheVariants.{NotAllowed};
+ghost use Rattle.runs.specs.declared.state.State.TheVariants.{Draft as OfDraft, Frozen as OfFrozen};
 
 use crate::call::Call;
-use crate::outcome::Outcome;
+use crate::outcome::{CallFault, Outcome};
 use crate::state::State;
-use book::{AxiomId, Book, BookFault, Draft, FileFault, Frozen};
-use records::{LoadFault, load};
+use book::{Book, Draft, Frozen};
+use records::load;
 use std::alloc::{AllocError, Global};
-use vocabulary::NameId;
 
-fn named(answer: Result<NameId, BookFault>) -> Outcome
-    ensures { result ≡ answering (λ id. Counted id.0) (λ f. Refused (book_refusal f)) answer }
+// Makes a call on a draft. Freezing takes the draft, which is lent here, and so is left to the caller.
+fn amend(draft: &mut Draft, call: &Call) -> Outcome
+    ensures amends { Amends (contents draft.new.book) result (on_draft (contents draft.old.book) (step_of call.now)) }
+    ensures kept { result ≡ Err NotAllowed → draft.new ≡ draft.old }
 {
-    match answer {
-        Ok(id) => Outcome::Counted(id.0 as usize),
-        Err(fault) => Outcome::Refused(fault.refusal()),
-    }
-}
-
-fn filed(answer: Result<AxiomId, FileFault>) -> Outcome
-    ensures { result ≡ answering (λ id. Counted id.0) (λ f. Refused (file_refusal f)) answer }
-{
-    match answer {
-        Ok(id) => Outcome::Counted(id.0 as usize),
-        Err(fault) => Outcome::Refused(fault.refusal()),
-    }
-}
-
-fn changed(answer: Result<(), BookFault>) -> Outcome
-    ensures { result ≡ answering (λ x. Done) (λ f. Refused (book_refusal f)) answer }
-{
-    match answer {
-        Ok(()) => Outcome::Done,
-        Err(fault) => Outcome::Refused(fault.refusal()),
-    }
-}
-
-fn taken(answer: Result<usize, LoadFault>) -> Outcome
-    ensures { result ≡ answering Counted (λ s. LoadRefused (load_refusal s) s.taken) (told answer) }
-{
-    match answer {
-        Ok(count) => Outcome::Counted(count),
-        Err(fault) => Outcome::LoadRefused(fault.refusal(), fault.taken()),
+    match call {
+        Call::Name { kind, label } => {
+            let id = draft.name(*kind, label.as_slice())?;
+            Ok(Some(usize::from(id.0)))
+        }
+        Call::File { kind, body } => {
+            let id = draft.file(*kind, body.as_slice())?;
+            Ok(Some(usize::from(id.0)))
+        }
+        Call::Load { file } => {
+            let taken = load(draft, file.as_slice())?;
+            Ok(Some(taken))
+        }
+        Call::LayAside(id) => {
+            draft.lay_aside(*id)?;
+            Ok(None)
+        }
+        Call::Restore(id) => {
+            draft.restore(*id)?;
+            Ok(None)
+        }
+        Call::Seed(id) => {
+            draft.seed(*id)?;
+            Ok(None)
+        }
+        Call::Unseed(id) => {
+            draft.unseed(*id)?;
+            Ok(None)
+        }
+        Call::Freeze => Ok(None),
+        Call::Reopen => Err(CallFault::NotAllowed),
     }
 }
 
 fn on_draft(draft: Draft, call: &Call) -> (State, Outcome)
-    ensures { Performs result.0 result.1 (on_draft (contents draft.book) (step_of call.now)) }
+    ensures performs { Performs result.0 result.1 (on_draft (contents draft.book) (step_of call.now)) }
+    ensures kept { result.1 ≡ Err NotAllowed → result.0 ≡ OfDraft draft }
 {
-    let mut book = draft;
-    let outcome = match call {
-        Call::Name { kind, label } => named(book.name(*kind, label.as_slice())),
-        Call::File { kind, body } => filed(book.file(*kind, body.as_slice())),
-        Call::Load { file } => taken(load(&mut book, file.as_slice())),
-        Call::LayAside(id) => changed(book.lay_aside(*id)),
-        Call::Restore(id) => changed(book.restore(*id)),
-        Call::Seed(id) => changed(book.seed(*id)),
-        Call::Unseed(id) => changed(book.unseed(*id)),
-        Call::Freeze => return (State::Frozen(book.freeze()), Outcome::Done),
-        Call::Reopen => Outcome::NotAllowed,
-    };
-    (State::Draft(book), outcome)
+    let mut draft = draft;
+    let outcome = amend(&mut draft, call);
+    match call {
+        Call::Freeze => (State::Frozen(draft.freeze()), outcome),
+        _ => (State::Draft(draft), outcome),
+    }
 }
 
 fn on_frozen(frozen: Frozen, call: &Call) -> (State, Outcome)
-    ensures { Performs result.0 result.1 (on_frozen (contents frozen.book) (step_of call.now)) }
+    ensures performs { Performs result.0 result.1 (on_frozen (contents frozen.book) (step_of call.now)) }
+    ensures kept { result.1 ≡ Err NotAllowed → result.0 ≡ OfFrozen frozen }
 {
     match call {
-        Call::Reopen => (State::Draft(frozen.reopen()), Outcome::Done),
-        _ => (State::Frozen(frozen), Outcome::NotAllowed),
+        Call::Reopen => (State::Draft(frozen.reopen()), Ok(None)),
+        _ => (State::Frozen(frozen), Err(CallFault::NotAllowed)),
     }
 }
 
@@ -96,7 +92,9 @@ impl State {
 
     // Performs a call, and answers the book after it and the outcome.
     pub fn perform(self, call: &Call) -> (State, Outcome)
-        ensures { Performs result.0 result.1 (performing (standing self) (step_of call.now)) }
+        ensures performs { Performs result.0 result.1 (performing (standing self) (step_of call.now)) }
+        // a book that does not have the call is the same as before
+        ensures kept { result.1 ≡ Err NotAllowed → result.0 ≡ self }
     {
         match self {
             State::Draft(draft) => on_draft(draft, call),

@@ -1,4 +1,4 @@
-use Rattle.std.proofs.Common.{ℕ, ◌+◌, ◌<◌, ◌≤◌, length, get_or, take, refl, ap, ◌∙◌, arith}
+use Rattle.std.proofs.Common.{ℕ, ◌+◌, ◌<◌, ◌≤◌, length, get_or, refl, arith, rules}
 use Rattle.terms.specs.Tables.{nodes_of}
 use Rattle.codec.proofs.Accepting.{accepts, refuses}
 use Rattle.codec.proofs.parsed.read_axiom.Goals as goal
@@ -6,10 +6,11 @@ use Rattle.codec.proofs.parsed.read_axiom.Goals as goal
 pub returns-in-Err : goal.returns-in-Err
 returns-in-Err c =
     let room : length (nodes_of c.args.terms.now) + length c.args.body.now ≤ 33280 = omega (arith, c.count-before.ensures) in
-    refuses room (c.truncate.ensures ∙ ap (λ n. take n (nodes_of c.parsed.new.terms)) c.count-before.ensures) c.in-Err.ensures
+    refuses room (search rules) c.in-Err.ensures.value
 
 pub returns-in-Ok : goal.returns-in-Ok
 returns-in-Ok c =
     let typed : (i : ℕ) → get_or c.args.body.now i 0 < 256 = λ i. omega (arith, c.type_inv.body i) in
     let room : length (nodes_of c.args.terms.now) + length c.args.body.now ≤ 33280 = omega (arith, c.count-before.ensures) in
-    accepts refl room typed c.in-Ok.ensures
+    let a = accepts refl room typed c.in-Ok.ensures.value in
+    search rules

@@ -1,13 +1,10 @@
-use Rattle.std.proofs.Common.{refl, arith, rules}
+use Rattle.std.proofs.Common.{refl, arith}
 use Rattle.book.specs.Calls.{contents}
 use Rattle.extraction.proofs.Rounding.{stage_begins, list_begins, round_more, round_last, few_rounds}
 use Rattle.extraction.proofs.rounds.rounds.Goals as goal
 
 pub loop-marking-init : goal.loop-marking-init
 loop-marking-init g c = (refl, list_begins (contents c.args.book.now) _ c.seeded_names-tables.ensures, stage_begins _ _ _)
-
-pub overflow_add-marking : goal.overflow_add-marking
-overflow_add-marking g c = let few = few_rounds c.args.book.now _ _ _ _ c.loop-marking.invariant.2 in search rules
 
 pub loop-marking-preserved : goal.loop-marking-preserved
 loop-marking-preserved g c =
@@ -17,9 +14,6 @@ pub loop-marking-smaller : goal.loop-marking-smaller
 loop-marking-smaller g c =
     let next = round_more _ _ _ _ _ _ _ c.loop-marking.invariant.0 c.round.ensures c.loop-marking.invariant.2 c.loop-marking-test.true in
     omega (arith, few_rounds c.args.book.now _ _ _ _ next.2)
-
-pub overflow_add-result : goal.overflow_add-result
-overflow_add-result g c = let few = few_rounds c.args.book.now _ _ _ _ c.loop-marking.invariant.2 in search rules
 
 pub returns : goal.returns
 returns g c =

@@ -1,23 +1,25 @@
-use Rattle.std.proofs.Common.{refl, subst, rules}
+use Rattle.std.proofs.Common.{length, sym, refl, ap, ◌∙◌, subst, rules}
+use Rattle.std.proofs.lemmas.List.{length_push}
+use Rattle.std.proofs.lemmas.Slice.Zip.{zip_turn}
+use Rattle.book.specs.declared.book.Filed.{Filed}
+use Rattle.terms.specs.Forms.{rule}
+use Rattle.terms.specs.Tables.{nodes_of}
 use Rattle.locality.specs.Mentions.{in_rule}
 use Rattle.extraction.specs.Listing.{Adds}
-use Rattle.extraction.proofs.Visiting.{all_visited, list_all, list_start, list_skip, list_next, rule_room, rule_at_number}
+use Rattle.extraction.proofs.Visiting.{list_skip, list_next, rule_room, rule_at_number}
 use Rattle.extraction.proofs.whole.list_names.Goals as goal
-use Rattle.extraction.proofs.whole.list_names.Goals.{then-kept-number, else-kept-number}
 
-pub loop-number-init : goal.loop-number-init
-loop-number-init c = list_start _ _ _ _ (search rules) refl
+pub loop-filed-preserved-then-is_kept : goal.loop-filed-preserved-then-is_kept
+loop-filed-preserved-then-is_kept c =
+    let b = c.args.book.now in
+    let turn = zip_turn b.axioms c.args.kept.now c.loop-filed.yielded c.into_iter-filed-iterator.result c.loop-filed.filed-iterator c.next.new.self c.next.result (search rules) (search rules) c.loop-filed.yielded_by _ c.in-Some.is c.next.ensures.steps in
+    rw (length_push c.loop-filed.yielded _)
+    (list_next _ _ _ _ _ _ (rule_room b _) (sym (turn.3 _) ∙ c.if-is_kept.true)
+    (subst (λ r. Adds (in_rule r) c.loop-filed.listed c.list_axiom.new.listed) (ap (λ (f : Filed). rule (nodes_of c.terms.result.now) f.«axiom») (turn.2 c.in-Some.filed.now) ∙ rule_at_number b b.axioms c.terms.result.now (length c.loop-filed.yielded) c.in-Some.filed.now refl c.terms.ensures turn.0) c.list_axiom.ensures)
+    c.loop-filed.invariant)
 
-pub loop-number-preserved : goal.loop-number-preserved
-loop-number-preserved c = elim c.if-kept-number.branch [
-  | then-kept-number w ↦
-      rw w.listed-is
-      (list_next _ _ _ _ _ _ (rule_room c.args.book.now _) (search rules)
-      (subst (λ r. Adds (in_rule r) c.loop-number.listed w.list_axiom.new.listed) (rule_at_number c.args.book.now _ w.terms.result.now c.loop-number.number _ c.axioms-filed-items.ensures w.terms.ensures c.loop-number-test.true) w.list_axiom.ensures)
-      c.loop-number.invariant)
-  | else-kept-number w ↦ rw w.listed-is (list_skip _ _ _ _ _ (search rules) c.loop-number.invariant)
-]
-
-pub returns : goal.returns
-returns c =
-    list_all _ _ _ _ _ _ (all_visited c.args.book.now _ _ c.axioms-filed-items.ensures c.loop-number.auto.number-end c.loop-number-test.false) c.loop-number.invariant
+pub loop-filed-preserved : goal.loop-filed-preserved
+loop-filed-preserved c =
+    let b = c.args.book.now in
+    let turn = zip_turn b.axioms c.args.kept.now c.loop-filed.yielded c.into_iter-filed-iterator.result c.loop-filed.filed-iterator c.next.new.self c.next.result (search rules) (search rules) c.loop-filed.yielded_by _ c.in-Some.is c.next.ensures.steps in
+    rw (length_push c.loop-filed.yielded _) (list_skip _ _ _ _ _ (sym (turn.3 _) ∙ c.if-is_kept.false) c.loop-filed.invariant)

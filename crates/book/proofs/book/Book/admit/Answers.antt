@@ -1,79 +1,73 @@
-use Rattle.std.proofs.Common.{◌≡◌, ℕ, ◌+◌, List, map, length, Some, Ok, Err, vec_items, Result, sym, ap, ◌∙◌, subst, rules}
-use lib.ListN.{length-map}
+use Rattle.std.proofs.Common.{◌≡◌, ◌+◌, ◌≤◌, List, map, length, length-append, Err, Ok, Result, sym, ap, ◌∙◌, subst, arith, rules}
+use Rattle.std.proofs.lemmas.List.{length-map}
 use Rattle.std.proofs.lemmas.Result.{err_from_is_err_and}
 use Rattle.vocabulary.specs.Naming.{entities}
 use Rattle.terms.specs.declared.term.Term.{Term}
 use Rattle.terms.specs.Tables.{nodes_of}
-use Rattle.codec.specs.Parsing.{Parses, Accepts, Refuses}
+use Rattle.codec.specs.Parsing.{Accepts, Refuses}
 use Rattle.book.specs.declared.book.AxiomId.{AxiomId}
 use Rattle.book.specs.declared.book.Filed.{Filed}
 use Rattle.book.specs.declared.fault.BookFault.{BookFault}
 use Rattle.book.specs.Contents.{Contents, filing}
 use Rattle.book.specs.Calls.{contents}
-use Rattle.book.proofs.Keeping.{Whole, whole_at, filed, filings_add, read_is}
+use Rattle.book.proofs.Keeping.{Whole, filed, filings_add, read_is}
 use Rattle.book.proofs.Admitting.{cut_back, admission_bad, admission_stopped, admission_done, nothing_against}
 use Rattle.book.proofs.Held.{whole_of}
 use Rattle.book.proofs.book.Book.admit.Goals as goal
-use Rattle.book.proofs.book.Book.admit.Goals.{In_ok-parsed}
+use Rattle.book.proofs.book.Book.admit.Goals.{In_err-parsed, In_ok-parsed}
 
 -- the contents of the book at the entry, with another table of terms
 abbrev with_table : (b : Contents) → List Filed → List Term → Contents
 with_table b fs ts = record { names = b.names; axioms = map (filing ts) fs }
 
--- the body was read
+refuses : (c : In_err-parsed) → Refuses (nodes_of c.args.self.now.terms) (entities c.args.self.now.names) c.args.kind c.args.body.now c.in_err-parsed.field-0.0 (nodes_of c.read_axiom.new.terms)
+refuses c = rw c.in_err-parsed.ensures at c.read_axiom.ensures
+
 accepts : (c : In_ok-parsed) → Accepts (nodes_of c.args.self.now.terms) (entities c.args.self.now.names) c.args.kind c.args.body.now c.in_ok-parsed.parsed (nodes_of c.read_axiom.new.terms)
-accepts c =
-    subst (λ r. Parses (nodes_of c.args.self.now.terms) (entities c.args.self.now.names) c.args.kind c.args.body.now (Some r) (nodes_of c.read_axiom.new.terms))
-    c.in_ok-parsed.was
-    c.in-Some.ensures
+accepts c = rw c.in_ok-parsed.ensures at c.read_axiom.ensures
+
+number : (c : In_ok-parsed) → length c.args.self.now.axioms ≡ length (contents c.args.self.now).axioms
+number c = sym (length-map c.args.self.now.axioms (filing (nodes_of c.args.self.now.terms)))
 
 pub returns-in_err-parsed : goal.returns-in_err-parsed
 returns-in_err-parsed c =
     let p = err_from_is_err_and c.from_residual.result c.from_residual.ensures.1 in
-    let r : Refuses (nodes_of c.args.self.now.terms) (entities c.args.self.now.names) c.args.kind c.args.body.now c.in_err-parsed.field-0.0 (nodes_of c.read_axiom.new.terms) =
-    subst (λ r. Parses (nodes_of c.args.self.now.terms) (entities c.args.self.now.names) c.args.kind c.args.body.now (Some r) (nodes_of c.read_axiom.new.terms)) c.in_err-parsed.was c.in-Some.ensures in
+    let r = refuses (goal.at.returns-in_err-parsed c).In_err-parsed in
     let turn = admission_bad (contents c.args.self.now) c.args.kind c.args.body.now c.in_err-parsed.field-0.0 r.reads in
     record {
-      state = ap (with_table (contents c.args.self.now) (vec_items c.args.self.now.axioms)) r.same ∙ sym (ap (λ t. t.state) turn);
+      state = ap (with_table (contents c.args.self.now) c.args.self.now.axioms) r.same ∙ sym (ap (λ t. t.state) turn);
       answer = p.1 ∙ ap Err p.2 ∙ sym (ap (λ t. t.answer) turn);
     }
 
-number : (c : In_ok-parsed) (n : ℕ) → n ≡ length (vec_items c.args.self.now.axioms) → n ≡ length (contents c.args.self.now).axioms
-number c n e = e ∙ sym (length-map (vec_items c.args.self.now.axioms) (filing (nodes_of c.args.self.now.terms)))
-
-pub invariant_of-self-in-Some-obstacle : goal.invariant_of-self-in-Some-obstacle
-invariant_of-self-in-Some-obstacle c =
-    let a = accepts (goal.at.invariant_of-self-in-Some-obstacle c).In_ok-parsed in
-    let w = whole_at (cut_back _ a.begins c.count-before.ensures c.truncate.ensures) (whole_of c.args.self.now) in
-    record { room = search rules; few = search rules; tally = w.tally; limit = w.limit; sparse = w.sparse; right = w.right; firm = w.firm }
-
-pub returns-in-Some-obstacle : goal.returns-in-Some-obstacle
-returns-in-Some-obstacle c =
-    let m = (goal.at.returns-in-Some-obstacle c).In_ok-parsed in
+pub returns-in-Some : goal.returns-in-Some
+returns-in-Some c =
+    let m = (goal.at.returns-in-Some c).In_ok-parsed in
     let a = accepts m in
-    let count : c.len-number.result ≡ length (vec_items c.args.self.now.axioms) = search rules in
-    let turn = admission_stopped (contents c.args.self.now) c.args.kind c.args.body.now _ _ _ _ (read_is a) (number m _ count) c.args.self.now.tally c.in-Some-obstacle.fault c.in-Some-obstacle.ensures in
+    let turn = admission_stopped (contents c.args.self.now) c.args.kind c.args.body.now _ _ _ _ (read_is a) (c.len-count.ensures.value ∙ number m) c.args.self.now.tally c.in-Some.fault c.in-Some.ensures in
     record {
-      state = ap (with_table (contents c.args.self.now) (vec_items c.args.self.now.axioms)) (cut_back _ a.begins c.count-before.ensures c.truncate.ensures) ∙ sym (ap (λ t. t.state) turn);
+      state = ap (with_table (contents c.args.self.now) c.args.self.now.axioms) (cut_back _ a.begins c.count-before.ensures c.truncate.ensures) ∙ sym (ap (λ t. t.state) turn);
       answer = sym (ap (λ t. t.answer) turn);
     }
 
 pub invariant_of-self-2 : goal.invariant_of-self-2
 invariant_of-self-2 c =
     let a = accepts (goal.at.invariant_of-self-2 c).In_ok-parsed in
-    let free = nothing_against _ _ _ _ c.in_default-obstacle.ensures in
+    let free = nothing_against _ _ _ _ c.in_default.ensures in
+    let added = rw c.unwrap-number.ensures at c.push.ensures.added in
     let grown = filed a (whole_of c.args.self.now) free.0 c.requires free.2 in
-    let w = subst (λ fs. Whole (entities c.args.self.now.names) (nodes_of c.read_axiom.new.terms) fs (c.args.self.now.bytes + length c.args.body.now)) (sym c.push_reserved.ensures.items) grown in
-    record { room = search rules; few = search rules; tally = w.tally; limit = w.limit; sparse = w.sparse; right = w.right; firm = w.firm }
+    let w = subst (λ fs. Whole (entities c.args.self.now.names) (nodes_of c.read_axiom.new.terms) fs (c.args.self.now.bytes + length c.args.body.now)) (sym added) grown in
+    let few : length c.push.new.self ≤ 1024 = omega (arith, ap length added, length-append {A = Filed}) in
+    search rules
 
 pub returns : goal.returns
 returns c =
     let m = (goal.at.returns c).In_ok-parsed in
     let a = accepts m in
-    let count : c.len-number.result ≡ length (vec_items c.args.self.now.axioms) = search rules in
-    let turn = admission_done (contents c.args.self.now) c.args.kind c.args.body.now _ _ _ _ (read_is a) (number m _ count) c.args.self.now.tally c.in_default-obstacle.ensures in
-    let same = ap (λ fs. map (filing (nodes_of c.read_axiom.new.terms)) fs) c.push_reserved.ensures.items ∙ filings_add a (whole_of c.args.self.now) in
+    let added = rw c.unwrap-number.ensures at c.push.ensures.added in
+    let numbered = rw c.unwrap-number.ensures at c.push.ensures.number in
+    let turn = admission_done (contents c.args.self.now) c.args.kind c.args.body.now _ _ _ _ (read_is a) (c.len-count.ensures.value ∙ number m) c.args.self.now.tally c.in_default.ensures in
+    let same = ap (λ fs. map (filing (nodes_of c.read_axiom.new.terms)) fs) added ∙ filings_add a (whole_of c.args.self.now) in
     record {
       state = ap (λ fs. record { names = entities c.args.self.now.names; axioms = fs }) same ∙ sym (ap (λ t. t.state) turn);
-      answer = ap {B = Result AxiomId BookFault} (λ n. Ok (record { 0 = n })) (number m _ count) ∙ sym (ap (λ t. t.answer) turn);
+      answer = ap {B = Result AxiomId BookFault} (λ n. Ok (record { 0 = n })) (numbered ∙ number m) ∙ sym (ap (λ t. t.answer) turn);
     }

@@ -1,5 +1,5 @@
 use Rattle.std.proofs.Common.{rules}
-use lib.ListN.{length-map}
+use Rattle.std.proofs.lemmas.List.{length-map}
 use Rattle.book.proofs.book.Book.is_blank.Goals as goal
 
 pub returns-then-count-eq0 : goal.returns-then-count-eq0

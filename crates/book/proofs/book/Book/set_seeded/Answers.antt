@@ -7,7 +7,7 @@ use Rattle.book.proofs.book.Book.set_seeded.Goals as goal
 pub invariant_of-self : goal.invariant_of-self
 invariant_of-self c =
     let w = whole_reseed c.args.id.0 c.args.on c.set_seeded.ensures.after (whole_of c.args.self.now) in
-    record { room = search rules; few = search rules; tally = w.tally; limit = w.limit; sparse = w.sparse; right = w.right; firm = w.firm }
+    search rules
 
-pub returns-else-set_seeded : goal.returns-else-set_seeded
-returns-else-set_seeded c = search (rules, reseed_past)
+pub returns-in_err-set_seeded : goal.returns-in_err-set_seeded
+returns-in_err-set_seeded c = search (rules, reseed_past)

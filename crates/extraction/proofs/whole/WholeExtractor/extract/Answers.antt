@@ -1,12 +1,8 @@
-use Rattle.std.proofs.Common.{refl}
 use Rattle.extraction.proofs.Visiting.{list_closed}
 use Rattle.extraction.proofs.whole.WholeExtractor.extract.Goals as goal
 
-pub returns : goal.returns
-returns c = record {
-  holds = record {
-    axioms = c.axioms_in_force-tables.ensures;
-    names = list_closed _ _ _ _ _ c.seeded_names-tables.ensures c.axioms_in_force-tables.ensures c.list_names.ensures;
-  };
-  counts = refl;
+pub returns-clause-holds : goal.returns-clause-holds
+returns-clause-holds c = record {
+  axioms = c.axioms_in_force-tables.ensures;
+  names = list_closed _ _ _ _ _ c.seeded_names-tables.ensures c.axioms_in_force-tables.ensures c.list_names.ensures;
 }

@@ -1,15 +1,11 @@
-use Rattle.std.proofs.Common.{◌<◌, ◌≤◌, length, vec_items, rules}
-use Rattle.terms.proofs.Nodes.{node_within, node_past}
+use Rattle.std.proofs.Common.{◌≡◌, unwrap_or, rules}
+use Rattle.std.specs.List.{slice_get}
+use Rattle.terms.specs.declared.term.Term.TheVariants.{Nothing}
+use Rattle.terms.proofs.Nodes.{node_at}
 use Rattle.terms.proofs.table.Terms.at.Goals as goal
 
-pub returns-then-at-len : goal.returns-then-at-len
-returns-then-at-len c =
-    let within : c.args.id.0 < length (vec_items c.args.self.now.nodes) = search rules in
-    let s = node_within (vec_items c.args.self.now.nodes) c.args.id c.index.result.now within c.index.ensures in
-    record { value = s.value; tree = s.tree }
-
-pub returns-else-at-len : goal.returns-else-at-len
-returns-else-at-len c =
-    let past : length (vec_items c.args.self.now.nodes) ≤ c.args.id.0 = search rules in
-    let s = node_past (vec_items c.args.self.now.nodes) c.args.id past in
+pub returns : goal.returns
+returns c =
+    let found : c.unwrap_or.result ≡ unwrap_or (slice_get c.args.self.now.nodes c.args.id.0) Nothing = search rules in
+    let s = node_at c.args.self.now.nodes c.args.id _ found in
     record { value = s.value; tree = s.tree }

@@ -1,32 +1,33 @@
-use Rattle.std.proofs.Common.{◌≡◌, ◌<◌, map, length, set, vec_items, refl, rules}
-use lib.ListN.{length-map}
+use Rattle.std.proofs.Common.{◌≡◌, ◌<◌, map, length, get_or, set, refl, rules}
+use Rattle.std.proofs.lemmas.List.{length-map}
 use Rattle.vocabulary.specs.declared.name.Name.{Name}
 use Rattle.vocabulary.specs.Entities.{entity, reseed}
 use Rattle.vocabulary.proofs.Kept.{reseed_past, names_reseed, reseed_apart}
 use Rattle.vocabulary.proofs.table.Vocabulary.set_seeded.Goals as goal
-use Rattle.vocabulary.proofs.table.Vocabulary.set_seeded.Goals.{After-index_mut}
+use Rattle.vocabulary.proofs.table.Vocabulary.set_seeded.Goals.{In_ok-name}
 
-pub returns-then-at-len : goal.returns-then-at-len
-returns-then-at-len c = search (rules, reseed_past, length-map)
+pub returns-in_err-name-clause-after : goal.returns-in_err-name-clause-after
+returns-in_err-name-clause-after c = search (rules, reseed_past, length-map)
 
 -- what the name is after the write
-changed : (c : After-index_mut) → Name
-changed c = record { kind = c.index_mut.result.now.kind; label = c.index_mut.result.now.label; seeded = c.args.on }
+changed : (c : In_ok-name) → Name
+changed c = record { kind = c.in_ok-name.name.now.kind; label = c.in_ok-name.name.now.label; seeded = c.args.on }
 
-written : (c : After-index_mut) → map entity (set (vec_items c.args.self.now.names) c.args.id.0 (changed c)) ≡ reseed (map entity (vec_items c.args.self.now.names)) c.args.id.0 c.args.on
+written : (c : In_ok-name) → map entity (set c.args.self.now.names c.from.result (changed c)) ≡ reseed (map entity c.args.self.now.names) c.from.result c.args.on
 unfolding changed
 written c =
-    let within : c.args.id.0 < length (vec_items c.args.self.now.names) = search rules in
-    names_reseed (vec_items c.args.self.now.names) c.args.id.0 c.index_mut.result.now (changed c) c.args.on within c.index_mut.ensures.value refl
+    let within : c.from.result < length c.args.self.now.names = search rules in
+    let value : c.in_ok-name.name.now ≡ get_or c.args.self.now.names c.from.result c.in_ok-name.name.now = search rules in
+    names_reseed c.args.self.now.names c.from.result c.in_ok-name.name.now (changed c) c.args.on within value refl
 
-pub invariant_of-self : goal.invariant_of-self
+pub invariant_of-self-2 : goal.invariant_of-self-2
 unfolding changed
-invariant_of-self c =
-    let apart = reseed_apart (vec_items c.args.self.now.names) _ c.args.id.0 c.args.on (written (goal.at.invariant_of-self c).After-index_mut) c.args.self.now.apart in
+invariant_of-self-2 c =
+    let apart = reseed_apart c.args.self.now.names _ c.from.result c.args.on (written (goal.at.invariant_of-self-2 c).In_ok-name) c.args.self.now.apart in
     search rules
 
-pub returns : goal.returns
+pub returns-clause-after : goal.returns-clause-after
 unfolding changed
-returns c =
-    let same = written (goal.at.returns c).After-index_mut in
-    search (rules, length-map)
+returns-clause-after c =
+    let same = written (goal.at.returns-clause-after c).In_ok-name in
+    search rules
