@@ -2,7 +2,7 @@
 use Rattle.std.proofs.Common.{◌≡◌, ℕ, zero, suc, ◌+◌, ◌<◌, ◌≤◌, Bool, true, false, cond, ◌&&◌, leb, List, [], ◌∷◌, ◌++◌, map, length, get_or, set, Ok, Err, Result, sym, refl, ap, ◌∙◌, subst, append_assoc, append-nil, arith}
 use mathlib.Core.Logic.{∥∥₁_elim}
 use Rattle.std.specs.List.{AllByRecursion, list_all}
-use Rattle.std.proofs.ByRecursion.{All-get_or, All-set, All-push}
+use Rattle.std.proofs.ByRecursion.{All-get_or, All-set, All-push, All-weaker as all_by_recursion_weaker}
 use Rattle.std.proofs.lemmas.List.{map_push, take_all}
 use Rattle.std.proofs.lemmas.List.Elements.{All-weaker}
 use Rattle.std.proofs.lemmas.List.Folds.{list_all-append}
@@ -59,8 +59,7 @@ firm_on : (ts more : List Term) (f : Filed) → Firm ts f → Firm (ts ++ more) 
 firm_on ts more f h later = ap (λ l. rule l f.«axiom») (append_assoc ts more later) ∙ h (more ++ later) ∙ sym (h more)
 
 all_on : (ts more : List Term) (fs : List Filed) → AllByRecursion (Firm ts) fs → AllByRecursion (Firm (ts ++ more)) fs
-all_on ts more [] a = tt
-all_on ts more (f ∷ fs) a = (firm_on ts more f a.0, all_on ts more fs a.1)
+all_on ts more = all_by_recursion_weaker (Firm ts) (Firm (ts ++ more)) (firm_on ts more)
 
 heads : {A B : Type 0} → ∥ A × B ∥₁ → ∥ A ∥₁
 heads t = ∥∥₁_elim t squash₁ (λ p. ∣ p.0 ∣₁)

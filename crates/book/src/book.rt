@@ -11,6 +11,13 @@ use std::alloc::{AllocError, Global};
 use terms::{Axiom, AxiomKind, Terms};
 use vocabulary::{NameId, Vocabulary};
 
+// How many axioms a book has room for, how many bytes the body of one may have, and all bodies together.
+pub const MOST_AXIOMS: usize = 1024;
+
+pub const LONGEST_BODY: usize = 512;
+
+const MOST_BYTES: usize = 32768;
+
 // The number of an axiom: how many were filed before it.
 #[derive(Clone, Copy, Debug, PartialEq, Eq, Hash)]
 pub struct AxiomId(pub u16);
@@ -28,7 +35,7 @@ pub struct Filed {
 pub struct Book {
     names: Vocabulary,
     terms: Terms,
-    axioms: Bounded<Filed, 1024>,
+    axioms: Bounded<Filed, MOST_AXIOMS>,
     bytes: usize,
     // as the table's own invariant says; lemmas about books need it of the value
     ghost few: { length axioms ≤ 1024 },
@@ -80,7 +87,7 @@ impl Book {
         self.names.count() == 0 && self.axioms.len() == 0
     }
 
-    // Makes a name of a kind byte and a label, and answers its number.
+    // Makes a name of a kind byte and a label, and answers its number; the byte is any, as `Draft::name` tells.
     fn name(&mut self, kind: u8, label: &[u8]) -> Result<NameId, BookFault>
         ensures { Gives self.new result (naming_call (contents self.old) kind label.now) }
     {
@@ -115,9 +122,9 @@ impl Book {
     {
         if end < len {
             Some(BookFault::LeftOver(end))
-        } else if count >= 1024 {
+        } else if count >= MOST_AXIOMS {
             Some(BookFault::AxiomsFull)
-        } else if bytes + len > 32768 {
+        } else if bytes + len > MOST_BYTES {
             Some(BookFault::BytesFull)
         } else {
             None
@@ -187,7 +194,8 @@ impl Draft {
         self.book.name(kind, label)
     }
 
-    // Puts a name into the signature.
+    // Puts a name into the signature. This and the three calls after it are named apart, since a list of calls tells them
+    // apart; what each pair has in common is the function that takes the flag.
     pub fn seed(&mut self, id: NameId) -> Result<(), BookFault>
         ensures { Gives self.new.book result (seeding_call (contents self.old.book) id.0 true) }
     {
@@ -228,7 +236,7 @@ impl Draft {
     pub fn file_axiom(&mut self, kind: AxiomKind, body: &[u8]) -> Result<AxiomId, FileFault>
         ensures { Gives self.new.book result (filing_of (contents self.old.book) (Some kind) body.now) }
     {
-        if body.len() > 512 {
+        if body.len() > LONGEST_BODY {
             return Err(FileFault::BodyTooLong);
         }
         Ok(self.book.admit(kind, body)?)
@@ -242,6 +250,7 @@ pub struct Frozen {
 }
 
 impl Frozen {
+    // The book. A draft and a frozen book each lend theirs, and no trait does it for both, since nothing takes either.
     pub fn book(&self) -> &Book
         ensures { result.now ≡ self.now.book }
     {

@@ -72,6 +72,8 @@ impl BookFault {
     }
 }
 
+// The reason in words. Each type of faults has these lines: Display cannot be written for all types of a trait at once,
+// and what a derive writes has no contract.
 impl fmt::Display for BookFault {
     ghost output = { λ f. Some (reason_text (book_refusal f).reason) };
 
@@ -126,6 +128,8 @@ impl FileFault {
     }
 }
 
+// The reason in words. Each type of faults has these lines: Display cannot be written for all types of a trait at once,
+// and what a derive writes has no contract.
 impl fmt::Display for FileFault {
     ghost output = { λ f. Some (reason_text (file_refusal f).reason) };
 

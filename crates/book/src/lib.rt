@@ -4,5 +4,5 @@
 mod book;
 mod fault;
 
-pub use book::{AxiomId, Book, Draft, Filed, Frozen};
+pub use book::{AxiomId, Book, Draft, Filed, Frozen, LONGEST_BODY, MOST_AXIOMS};
 pub use fault::{BookFault, FileFault};

@@ -39,6 +39,7 @@ bytes_of r = bytes r.items
 abbrev pub names_of : TermReader → List Entity
 names_of r = entities_of r.items
 
--- that, for a reader that holds its table
-abbrev pub Grows : {X Y : Type 0} → (List Term → X → Y) → TermReader → Result X ItemFault → TermReader → Outcome Y → Type 0
-Grows means before r after read = Builds means before.items (nodes_of before.terms.now) r after.items (nodes_of after.terms.now) read
+-- that, for a reader that holds its table, which stays the same one
+pub record Grows {X Y : Type 0} (means : List Term → X → Y) (before : TermReader) (r : Result X ItemFault) (after : TermReader) (read : Outcome Y) : Type 0 where
+  pub table : after.terms.ghost_name ≡ before.terms.ghost_name
+  pub builds : Builds means before.items (nodes_of before.terms.now) r after.items (nodes_of after.terms.now) read

@@ -4,7 +4,7 @@ ghost use Rattle.codec.specs.Parsing.{Parses};
 
 use crate::reader::BodyReader;
 use crate::term_reader::TermReader;
-use terms::{Axiom, AxiomKind, ItemFault, Terms};
+use terms::{Axiom, AxiomKind, ItemFault, MOST_NODES, Terms};
 use vocabulary::Vocabulary;
 
 // An axiom that was read, and the place after its last item.
@@ -15,7 +15,8 @@ pub struct Parsed {
 }
 
 // Reads an axiom of a kind; its nodes are added to the table, and after a fault the table is as it was. None where
-// the table has no room for as many nodes as the body has bytes.
+// the table has no room for as many nodes as the body has bytes. That is no fault of the body, and never comes of a book,
+// whose table has room for one body more: so it is a None around the result, and no fault in it.
 pub fn read_axiom<'a>(
     terms: &mut Terms,
     names: &'a Vocabulary,
@@ -25,7 +26,7 @@ pub fn read_axiom<'a>(
     ensures { Parses (nodes_of terms.old) (entities names.now) kind body.now result (nodes_of terms.new) }
 {
     let before = terms.count();
-    if before.saturating_add(body.len()) > 33280 {
+    if before.saturating_add(body.len()) > MOST_NODES {
         return None;
     }
     let items = BodyReader { body, names, at: 0 };

@@ -4,7 +4,7 @@ ghost use Rattle.terms.specs.Reading.{read_axiom, read_rest, read_term, read_who
 ghost use Rattle.terms.specs.Tables.{nodes_of};
 
 use crate::reader::BodyReader;
-use terms::{Axiom, AxiomKind, Code, ItemFault, Term, TermId, Terms};
+use terms::{Axiom, AxiomKind, Code, ItemFault, MOST_LEVELS, Term, TermId, Terms};
 use vocabulary::Kind;
 
 // Reads the terms of a body into a table, which has room for a node for each byte that is still to be read.
@@ -21,8 +21,7 @@ impl TermReader<'_> {
     // A term, where so many levels are still allowed.
     #[cycle(after_code_term)]
     fn term(&mut self, allowed: u8) -> Result<TermId, ItemFault>
-        ensures table { self.new.terms.ghost_name ≡ self.old.terms.ghost_name }
-        ensures value { Grows (form allowed) self.old result self.new (read_term (bytes_of self.old) (names_of self.old) allowed self.old.items.at) }
+        ensures { Grows (form allowed) self.old result self.new (read_term (bytes_of self.old) (names_of self.old) allowed self.old.items.at) }
     {
         if allowed == 0 {
             return Err(ItemFault::TooDeep(self.items.at));
@@ -35,8 +34,7 @@ impl TermReader<'_> {
     // The node that a code begins; the terms inside it have so many levels left.
     #[cycle(after_code_term)]
     fn after_code(&mut self, allowed: u8, code: Code) -> Result<Term, ItemFault>
-        ensures table { self.new.terms.ghost_name ≡ self.old.terms.ghost_name }
-        ensures value { Grows (λ ts. shape (form allowed ts)) self.old result self.new (read_rest (bytes_of self.old) (names_of self.old) (read_term (bytes_of self.old) (names_of self.old) allowed) code self.old.items.at) }
+        ensures { Grows (λ ts. shape (form allowed ts)) self.old result self.new (read_rest (bytes_of self.old) (names_of self.old) (read_term (bytes_of self.old) (names_of self.old) allowed) code self.old.items.at) }
     {
         match code {
             Code::Nothing => Ok(Term::Nothing),
@@ -65,17 +63,15 @@ impl TermReader<'_> {
 
     // A term of an axiom, of at most 24 levels.
     fn whole(&mut self) -> Result<TermId, ItemFault>
-        ensures table { self.new.terms.ghost_name ≡ self.old.terms.ghost_name }
-        ensures value { Grows meaning self.old result self.new (read_whole (bytes_of self.old) (names_of self.old) self.old.items.at) }
+        ensures { Grows meaning self.old result self.new (read_whole (bytes_of self.old) (names_of self.old) self.old.items.at) }
     {
-        self.term(24)
+        self.term(MOST_LEVELS)
     }
 
     // The items of an axiom, from the body's beginning.
     pub(crate) fn axiom(&mut self, kind: AxiomKind) -> Result<Axiom, ItemFault>
         requires { self.old.items.at ≡ 0 }
-        ensures table { self.new.terms.ghost_name ≡ self.old.terms.ghost_name }
-        ensures value { Grows rule self.old result self.new (read_axiom (bytes_of self.old) (names_of self.old) kind) }
+        ensures { Grows rule self.old result self.new (read_axiom (bytes_of self.old) (names_of self.old) kind) }
     {
         match kind {
             AxiomKind::Inclusion => {

@@ -10,7 +10,7 @@ use Rattle.std.proofs.lemmas.List.Recursion.{is_count_by}
 use Rattle.vocabulary.specs.declared.name.Name.{Name}
 use Rattle.vocabulary.specs.Entities.{Entity, entity}
 use Rattle.book.specs.Contents.{Contents}
-use Rattle.std.proofs.lemmas.List.{get_or-take}
+use Rattle.std.proofs.lemmas.List.{get_or-take, map-id}
 use Rattle.locality.specs.Tables.{listed_in}
 use Rattle.extraction.specs.declared.tables.Tables.{Tables}
 use Rattle.extraction.specs.Tallying.{ListsSeeded}
@@ -49,11 +49,7 @@ module _ {X : Type 0} (test : X → Bool) where
 
 -- a set of flags is what its flags say
 pub count_flagged : (flags : List Bool) → count_by (λ f. f) flags ≡ count_below (length flags) (set_of flags)
-count_flagged flags = count_listed (λ f. f) flags ∙ ap (λ l. count_below (length flags) (set_of l)) (map_id flags)
-  where
-    map_id : (l : List Bool) → map (λ f. f) l ≡ l
-    map_id [] = refl
-    map_id (f ∷ fs) = ap (λ t. f ∷ t) (map_id fs)
+count_flagged flags = count_listed (λ f. f) flags ∙ ap (λ l. count_below (length flags) (set_of l)) (map-id flags)
 
 -- what is in a set and not in a part of it
 pub count_without : (n : ℕ) (s t : ℕ → Bool) → ((k : ℕ) → t k ≡ true → s k ≡ true) → count_below n (λ k. s k && not (t k)) + count_below n t ≡ count_below n s
@@ -70,13 +66,14 @@ count_without (suc n) s t h =
     one false false g = refl
 
 -- one byte more is written
-pub overwritten_more : (n : ℕ) (s : ℕ → Bool) (bytes : List ℕ) → n < length bytes → set (overwritten n s bytes) n (bit (s n)) ≡ overwritten (n + 1) s bytes
-overwritten_more n s bytes h = go n s bytes h ∙ sym (rw add-one refl)
+pub overwritten_more : (n : ℕ) (s : ℕ → Bool) (bytes : List ℕ) → set (overwritten n s bytes) n (bit (s n)) ≡ overwritten (n + 1) s bytes
+overwritten_more n s bytes = go n s bytes ∙ sym (rw add-one refl)
   where
-    go : (n : ℕ) (s : ℕ → Bool) (bytes : List ℕ) → n < length bytes → set (overwritten n s bytes) n (bit (s n)) ≡ overwritten (suc n) s bytes
-    go n s [] h = absurd (omega arith)
-    go zero s (x ∷ bytes) h = refl
-    go (suc n) s (x ∷ bytes) h = ap (λ l. bit (s 0) ∷ l) (go n (λ k. s (suc k)) bytes (omega arith))
+    go : (n : ℕ) (s : ℕ → Bool) (bytes : List ℕ) → set (overwritten n s bytes) n (bit (s n)) ≡ overwritten (suc n) s bytes
+    go zero s [] = refl
+    go (suc n) s [] = refl
+    go zero s (x ∷ bytes) = refl
+    go (suc n) s (x ∷ bytes) = ap (λ l. bit (s 0) ∷ l) (go n (λ k. s (suc k)) bytes)
 
 overwritten_alike : (n : ℕ) (s t : ℕ → Bool) (bytes : List ℕ) → ((k : ℕ) → k < n → s k ≡ t k) → overwritten n s bytes ≡ overwritten n t bytes
 overwritten_alike zero s t bytes h = refl

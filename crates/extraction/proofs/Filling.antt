@@ -2,7 +2,7 @@
 use Rattle.std.proofs.Common.{◌≡◌, ℕ, zero, suc, ◌+◌, ◌<◌, Bool, true, false, ◌&&◌, ltb, List, [], ◌∷◌, map, length, get_or, set, replicate, sym, refl, ap, ◌∙◌, ap₂, ⊎_elim, arith, length-set, get_or-set_other, get_or-set_same}
 use mathlib.Core.Path.{fun_ext}
 use lib.ListN.{length-map, get_or-eq_default}
-use Rattle.std.proofs.lemmas.Bool.{both_ways, cases_Bool, cases_lt, cases_order, lt-ltb, le-ltb}
+use Rattle.std.proofs.lemmas.Bool.{and_right, both_ways, cases_Bool, cases_lt, cases_order, lt-ltb, le-ltb}
 use Rattle.vocabulary.specs.Entities.{entity}
 use Rattle.vocabulary.specs.declared.name.Name.{Name}
 use Rattle.terms.specs.Tables.{nodes_of}
@@ -41,11 +41,7 @@ fill_next flags i v s l1024 e so = let h : i < length flags = rw so.room l1024 i
 
 -- nothing of the set is left
 pub fill_done : (flags : List Bool) (i : ℕ) (s : Marks) → ((k : ℕ) → s k ≡ true → k < i) → FilledTo i s flags → set_of flags ≡ s
-fill_done flags i s all so = fun_ext (λ k. so.flag k ∙ ⊎_elim (λ e. ap₂ ◌&&◌ (lt-ltb k i (all k e)) e ∙ sym e) (λ e. none (ltb k i) (s k) e ∙ sym e) (cases_Bool (s k)))
-  where
-    none : (a b : Bool) → b ≡ false → (a && b) ≡ false
-    none true b e = e
-    none false b e = refl
+fill_done flags i s all so = fun_ext (λ k. so.flag k ∙ ⊎_elim (λ e. ap₂ ◌&&◌ (lt-ltb k i (all k e)) e ∙ sym e) (λ e. and_right (ltb k i) (s k) e ∙ sym e) (cases_Bool (s k)))
 
 -- the flag that comes next is the one of its item
 pub flag_at : {X : Type 0} (p : X → Bool) (xs : List X) (k : ℕ) (d : X) → k < length xs → set_of (map p xs) k ≡ p (get_or xs k d)

@@ -1,6 +1,7 @@
 -- One round of a stage, as it is done.
 use Rattle.std.proofs.Common.{◌≡◌, ℕ, zero, suc, ◌+◌, ◌≤◌, Bool, true, false, not, ◌&&◌, ◌||◌, ltb, List, replicate, sym, refl, ap, ◌∙◌, subst, ap₂, ⊎_elim, add-one, arith}
 use mathlib.Core.Path.{fun_ext}
+use Rattle.std.proofs.Math.Bool.{or_assoc, or-true, and-or_distrib_right}
 use Rattle.std.proofs.lemmas.Bool.{both_ways, cases_Bool, lt-ltb, and_right}
 use Rattle.terms.specs.Forms.{Rule}
 use Rattle.book.specs.declared.book.Book.{Book}
@@ -28,32 +29,14 @@ fresh_is b local handed s list i h m r answer in-hand marked rule names e =
 
 or_swap : (a b p s : Bool) → ((a || b) || (p || s)) ≡ ((a || p) || (b || s))
 or_swap true b p s = refl
-or_swap false b true true = either b
-  where
-    either : (b : Bool) → (b || true) ≡ true
-    either true = refl
-    either false = refl
-or_swap false true true false = refl
-or_swap false false true false = refl
-or_swap false true false s = refl
-or_swap false false false s = refl
-
-spread : (a b c : Bool) → ((a || b) && c) ≡ ((a && c) || (b && c))
-spread true true true = refl
-spread true true false = refl
-spread true false true = refl
-spread true false false = refl
-spread false b c = refl
+or_swap false true p s = sym (or-true p)
+or_swap false false p s = refl
 
 -- the names of two sets together are those of the one and those of the other
 some_either : (n : ℕ) (p q r : ℕ → Bool) → some_below n (λ k. (p k || q k) && r k) ≡ (some_below n (λ k. p k && r k) || some_below n (λ k. q k && r k))
 some_either zero p q r = refl
 some_either (suc n) p q r =
-    ap₂ ◌||◌ (spread (p n) (q n) (r n)) (some_either n p q r) ∙ or_swap (p n && r n) (q n && r n) _ _
-
-or_assoc : (a b c : Bool) → ((a || b) || c) ≡ (a || (b || c))
-or_assoc true b c = refl
-or_assoc false b c = refl
+    ap₂ ◌||◌ (and-or_distrib_right (p n) (q n) (r n)) (some_either n p q r) ∙ or_swap (p n && r n) (q n && r n) _ _
 
 -- a round that went through all axioms
 pub round_done : (b : Contents) (local : Rule → Names → Bool) (before after : Tables) (i : ℕ) (any : Bool) → Inside b before → Consistent b before → i ≡ axiom_count b → after.handed ≡ before.handed → MarkedTo b i (fresh b local (set_of before.handed) (set_of before.kept)) (set_of before.kept) (listed_in before.closed) after.kept after.closed any → RoundDone b local before after any

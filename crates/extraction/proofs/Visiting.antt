@@ -1,7 +1,17 @@
 -- Going through the axioms of a book.
-use Rattle.std.proofs.Common.{◌≡◌, ℕ, ◌+◌, ◌<◌, ◌≤◌, Bool, true, false, ◌&&◌, ◌||◌, eqb, ltb, List, length, get_or, set, sym, refl, ap, ◌∙◌, ap₂, ⊎_elim, add-one, arith, length-set, get_or-set_other, get_or-set_same}
+use Rattle.std.proofs.Common.{◌≡◌, ℕ, ◌+◌, ◌<◌, ◌≤◌, Bool, true, false, ◌&&◌, ◌||◌, eqb, ltb, List, length, get_or, set, Some, Option, sym, refl, ap, ◌∙◌, ap₂, ⊎_elim, add-one, arith, length-set, get_or-set_other, get_or-set_same}
 use mathlib.Core.Path.{fun_ext}
+use denote.Ref.{Bor}
+use Rattle.std.specs.declared.iter.Zip.{Zip}
+use Rattle.std.specs.declared.slice.Iter.{Iter}
+use Rattle.std.specs.Iterator.{Yields}
+use Rattle.std.specs.Iterator.Adapters.{zip_first, zip_second}
+use Rattle.std.specs.Slice.Iter.{iter_rest}
+use Rattle.std.proofs.iter.Yields.{fronts}
+use Rattle.std.proofs.lemmas.Iterator.{zips}
+use Rattle.std.proofs.lemmas.Slice.Zip.{zip_turn}
 use lib.ListN.{length-map}
+use Rattle.std.proofs.Math.Bool.{or_assoc, or-false}
 use Rattle.std.proofs.lemmas.Bool.{cases_eq, cases_order, eq-eqb, ne_eqb, and_right, and_from, or_right, lt-ltb, le-ltb}
 use Rattle.vocabulary.specs.declared.name.NameId.{NameId}
 use Rattle.vocabulary.specs.Entities.{entity}
@@ -22,10 +32,6 @@ use Rattle.extraction.specs.Visits.{below, ListedTo, MarkedTo}
 use Rattle.extraction.proofs.Filling.{filed_at, axioms_number}
 use Rattle.extraction.specs.Names.{rule_names}
 
-or_none : (a : Bool) → (a || false) ≡ a
-or_none true = refl
-or_none false = refl
-
 -- every name in an axiom of a book has a flag in a table
 pub rule_room : (b : Book) (k : ℕ) (n : NameId) → in_rule (rule_at (contents b) k) n ≡ true → n.0 < 1024
 rule_room b k n h =
@@ -36,10 +42,22 @@ pub rule_at_number : (b : Book) (items : List Filed) (ts : Terms) (k : ℕ) (d :
 rule_at_number b items ts k d at table h =
     ap₂ (λ xs t. rule (nodes_of t) (get_or xs k d).«axiom») at table ∙ sym (ap (λ f. f.states) (filed_at (nodes_of b.terms) b.axioms k d (rw (sym at) h)))
 
+-- the axiom with a number, and its flag in a table
+pub record Visited (b : Book) (flags : List Bool) (k : ℕ) (filed : Filed) (flag : Bool) : Type 0 where
+  pub inside : k < length b.axioms
+  pub is : (d : Filed) → filed ≡ get_or b.axioms k d
+  pub flag_is : flag ≡ set_of flags k
+
+-- those that come next, where a loop goes through a book's axioms beside a table
+pub visit_turn : (b : Book) (flags : List Bool) (xs : List (Bor Filed × Bor Bool)) (s t u : Zip (Iter Filed) (Iter Bool)) (r : Option (Bor Filed × Bor Bool)) → iter_rest (zip_first s) ≡ b.axioms → iter_rest (zip_second s) ≡ flags → Yields (zips fronts fronts) s xs t → (p : Bor Filed × Bor Bool) → r ≡ Some p → zips fronts fronts t r u → Visited b flags (length xs) p.0.now p.1.now
+visit_turn b flags xs s t u r first second so_far p some step =
+    let turn = zip_turn b.axioms flags xs s t u r first second so_far p some step in
+    record { inside = turn.0; is = turn.2; flag_is = turn.3 false }
+
 module _ (b : Contents) (chosen : Marks) (before : Names) where
   -- no axiom yet
   pub list_start : (xs : List Bool) → length xs ≡ 1024 → before ≡ listed_in xs → ListedTo b 0 chosen before xs
-  list_start xs l e = record { room = l; names = sym e ∙ fun_ext (λ n. sym (or_none (before n))) }
+  list_start xs l e = record { room = l; names = sym e ∙ fun_ext (λ n. sym (or-false (before n))) }
 
   -- an axiom that is not chosen
   pub list_skip : (i : ℕ) (xs : List Bool) → chosen i ≡ false → ListedTo b i chosen before xs → ListedTo b (i + 1) chosen before xs
@@ -83,7 +101,7 @@ list_closed b s kept before xs names axioms so =
 set_more : (flags : List Bool) (i : ℕ) → i < length flags → (k : ℕ) → set_of (set flags i true) k ≡ (set_of flags k || eqb k i)
 set_more flags i h k = ⊎_elim
     (λ z. ap (λ j. set_of (set flags i true) j) z ∙ get_or-set_same flags i true false h ∙ sym (or_right _ _ (eq-eqb k i z)))
-    (λ z. get_or-set_other flags i k true false z ∙ sym (or_none _) ∙ ap (λ t. set_of flags k || t) (sym (ne_eqb k i z)))
+    (λ z. get_or-set_other flags i k true false z ∙ sym (or-false _) ∙ ap (λ t. set_of flags k || t) (sym (ne_eqb k i z)))
     (cases_eq k i)
 
 -- the numbers up to i are those below it, and i
@@ -91,24 +109,20 @@ below_more : (i : ℕ) (chosen : Marks) (k : ℕ) → below (i + 1) chosen k ≡
 below_more i chosen k = ⊎_elim
     (λ z. ap (λ t. t && chosen k) (lt-ltb k (i + 1) (omega arith)) ∙ sym (ap₂ (λ t u. (t && chosen k) || (u && chosen k)) (le-ltb k i (omega arith)) (eq-eqb k i z)))
     (⊎_elim
-    (λ l. ap (λ t. t && chosen k) (lt-ltb k (i + 1) (omega arith)) ∙ sym (ap₂ (λ t u. (t && chosen k) || (u && chosen k)) (lt-ltb k i l) (ne_eqb k i (λ z. absurd (omega arith))) ∙ or_none (chosen k)))
+    (λ l. ap (λ t. t && chosen k) (lt-ltb k (i + 1) (omega arith)) ∙ sym (ap₂ (λ t u. (t && chosen k) || (u && chosen k)) (lt-ltb k i l) (ne_eqb k i (λ z. absurd (omega arith))) ∙ or-false (chosen k)))
     (λ l. ap (λ t. t && chosen k) (le-ltb k (i + 1) (omega arith)) ∙ sym (ap₂ (λ t u. (t && chosen k) || (u && chosen k)) (le-ltb k i (omega arith)) (ne_eqb k i (λ z. absurd (omega arith))))))
     (cases_order k i)
-
-or_assoc : (a b c : Bool) → ((a || b) || c) ≡ (a || (b || c))
-or_assoc true b c = refl
-or_assoc false b c = refl
 
 module _ (b : Contents) (chosen marked : Marks) (before : Names) where
   -- the axiom that is next is not marked yet, unless it was from the beginning
   pub mark_at : (i : ℕ) (kept xs : List Bool) (any : Bool) → MarkedTo b i chosen marked before kept xs any → set_of kept i ≡ marked i
-  mark_at i kept xs any so = so.axioms i ∙ ap (λ t. marked i || (t && chosen i)) (le-ltb i i (omega arith)) ∙ or_none (marked i)
+  mark_at i kept xs any so = so.axioms i ∙ ap (λ t. marked i || (t && chosen i)) (le-ltb i i (omega arith)) ∙ or-false (marked i)
 
   -- an axiom that is not chosen
   pub mark_skip : (i : ℕ) (kept xs : List Bool) (any : Bool) → chosen i ≡ false → MarkedTo b i chosen marked before kept xs any → MarkedTo b (i + 1) chosen marked before kept xs any
   mark_skip i kept xs any out so = record {
     room = so.room;
-    axioms = λ k. so.axioms k ∙ ap (λ t. marked k || t) (sym (below_more i chosen k ∙ ap (λ t. below i chosen k || t) (skipped k) ∙ or_none _));
+    axioms = λ k. so.axioms k ∙ ap (λ t. marked k || t) (sym (below_more i chosen k ∙ ap (λ t. below i chosen k || t) (skipped k) ∙ or-false _));
     names = list_skip b chosen before i xs out so.names;
     some = so.some ∙ rw (add-one, out) refl;
   }

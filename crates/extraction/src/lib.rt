@@ -11,8 +11,8 @@ mod tables;
 mod whole;
 
 pub use extractor::Extractor;
-pub use marking::{MarkFault, Marking, mark};
+pub use marking::{MarkFault, Marking, is_unseeded, mark};
 pub use stage::Stage;
 pub use start::seeded_names;
-pub use tables::Tables;
+pub use tables::{Flags, Tables};
 pub use whole::Whole;

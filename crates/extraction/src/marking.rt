@@ -1,13 +1,13 @@
 // Marking a frozen book.
 ghost use Rattle.std.specs.List.{list_any};
-ghost use Rattle.std.specs.Prelude.{◌≡◌, ◌≤◌, Some, length};
+ghost use Rattle.std.specs.Prelude.{◌≡◌, Some, length};
 ghost use Rattle.vocabulary.specs.Refusals.{reason_text};
 ghost use Rattle.book.specs.Calls.{contents};
 ghost use Rattle.locality.specs.Meaning.{count_below};
 ghost use Rattle.extraction.specs.Extractors.{Meaning};
 ghost use Rattle.extraction.specs.Listing.{set_of};
-ghost use Rattle.extraction.specs.Marking.{MarksAs, unseeded, overwritten, marking};
-ghost use Rattle.extraction.specs.Sets.{axiom_count, name_count, names_in, signature};
+ghost use Rattle.extraction.specs.Marking.{MarksAs, unseeded, marking};
+ghost use Rattle.extraction.specs.Sets.{names_in, signature};
 ghost use Rattle.extraction.specs.Tallying.{ListsSeeded, Tallies};
 
 use crate::extractor::Extractor;
@@ -54,6 +54,8 @@ impl MarkFault {
     }
 }
 
+// The reason in words. Each type of faults has these lines: Display cannot be written for all types of a trait at once,
+// and what a derive writes has no contract.
 impl fmt::Display for MarkFault {
     ghost use Rattle.extraction.specs.Marking.{mark_refusal};
 
@@ -67,14 +69,15 @@ impl fmt::Display for MarkFault {
 
 impl Error for MarkFault {}
 
+// Whether one of these names is seeded.
 fn any_seeded(names: &[Name]) -> bool
     ensures { result ≡ list_any (λ n. n.seeded) names.now }
 {
     names.iter().any(|name| name.seeded)
 }
 
-// Whether no name of the book is seeded.
-fn is_unseeded(book: &Book) -> bool
+// Whether no name of the book is seeded: then there is nothing to mark for.
+pub fn is_unseeded(book: &Book) -> bool
     ensures { result ≡ unseeded (contents book.now) }
 {
     !any_seeded(book.names().as_slice())
@@ -95,28 +98,6 @@ fn count_flags(flags: &[bool]) -> usize
     flags.iter().filter(|flag| **flag).count()
 }
 
-// Writes 1 or 0 for each flag. Bytes are written by number: written through `iter_mut`, what the buffer ends as stays open
-// in the proof.
-fn write_flags(flags: &[bool], bytes: &mut [u8])
-    requires { length flags.now ≤ length bytes.old }
-    ensures { bytes.new ≡ overwritten (length flags.now) (set_of flags.now) bytes.old }
-{
-    for (number, flag) in flags.iter().enumerate() {
-        bytes[number] = u8::from(*flag);
-    }
-}
-
-// Writes out the flags that a book has: those of its axioms, and those of its names.
-fn write_tables(book: &Book, tables: &Tables, axioms: &mut [u8], names: &mut [u8])
-    requires axioms_fit { axiom_count (contents book.now) ≤ length axioms.old }
-    requires names_fit { name_count (contents book.now) ≤ length names.old }
-    ensures axioms { axioms.new ≡ overwritten (axiom_count (contents book.now)) (set_of tables.now.kept) axioms.old }
-    ensures names { names.new ≡ overwritten (name_count (contents book.now)) (set_of tables.now.closed) names.old }
-{
-    write_flags(&tables.kept[..book.axioms().len()], axioms);
-    write_flags(&tables.closed[..book.names().count()], names);
-}
-
 // Counts what tables hold. Every seeded name is listed, so the others are those drawn in.
 fn tally(book: &Book, tables: &Tables, rounds: u32) -> Marking
     requires { ListsSeeded (contents book.now) tables.now }
@@ -132,8 +113,8 @@ fn tally(book: &Book, tables: &Tables, rounds: u32) -> Marking
 }
 
 // Marks a frozen book through a pile: 1 or 0 for each axiom in one buffer, 1 or 0 for each name, whether it is in the
-// closed signature, in another. The buffers are lent one by one: a struct around both would be made for one call, and taken
-// apart in it.
+// closed signature, in another. The buffers are lent one by one, here and in the calls above: a struct around both would
+// have to promise at every step that it still holds the same two.
 pub fn mark<E: Extractor>(
     frozen: &Frozen,
     pile: &E,
@@ -153,6 +134,6 @@ pub fn mark<E: Extractor>(
     }
     let mut tables = Tables::new();
     let rounds = pile.extract(book, &mut tables);
-    write_tables(book, &tables, axioms, names);
+    tables.write(book, axioms, names);
     Ok(tally(book, &tables, rounds))
 }

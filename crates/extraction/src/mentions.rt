@@ -5,7 +5,7 @@ ghost use Rattle.terms.specs.Tables.{nodes_of};
 ghost use Rattle.locality.specs.Mentions.{same, in_term, in_rule};
 ghost use Rattle.extraction.specs.Listing.{Adds};
 
-use terms::{Axiom, Term, TermId, Terms};
+use terms::{Axiom, MOST_LEVELS, Term, TermId, Terms};
 use vocabulary::NameId;
 
 fn list_name(listed: &mut [bool], id: NameId)
@@ -45,7 +45,7 @@ fn list_term(listed: &mut [bool], terms: &Terms, id: TermId, levels: u8)
 fn list_whole(listed: &mut [bool], terms: &Terms, id: TermId)
     ensures { Adds (in_term (meaning (nodes_of terms.now) id)) listed.old listed.new }
 {
-    list_term(listed, terms, id, 24);
+    list_term(listed, terms, id, MOST_LEVELS);
 }
 
 // Adds the names of an axiom, individuals too.

@@ -10,18 +10,18 @@ ghost use Rattle.extraction.specs.Rounds.{stage_finish};
 
 use crate::mentions::list_axiom;
 use crate::start::seeded_names;
-use crate::tables::Tables;
+use crate::tables::{Flags, NONE, Tables};
 use book::Book;
 use locality::LocalityTest;
 use terms::{Axiom, Terms};
 
 // Whether a round marks the axiom with a number: it was handed up, is not marked, and is not local against the list. The
-// flags are read by number, since the same pass sets them.
+// flags are read by number, since the pass sets some of them.
 fn is_fresh<T: LocalityTest>(
     test: &T,
     terms: &Terms,
     axiom: Axiom,
-    list: &[bool; 1024],
+    list: &Flags,
     tables: &Tables,
     number: usize,
 ) -> bool
@@ -57,7 +57,7 @@ pub(crate) fn rounds<T: LocalityTest>(test: &T, book: &Book, tables: &mut Tables
     ensures holds { Holding (contents book.now) (stage_finish (contents book.now) (T.LocalityTest.local test.now) (set_of tables.old.handed)).marked tables.new }
     ensures counts { result ≡ (stage_finish (contents book.now) (T.LocalityTest.local test.now) (set_of tables.old.handed)).rounds }
 {
-    tables.kept = [false; 1024];
+    tables.kept = NONE;
     tables.closed = seeded_names(book);
     let mut marking = 0;
     while round(test, book, tables) {

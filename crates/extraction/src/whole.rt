@@ -9,15 +9,16 @@ ghost use Rattle.extraction.specs.Repaired.{whole_meaning};
 use crate::extractor::Extractor;
 use crate::mentions::list_axiom;
 use crate::start::{axioms_in_force, seeded_names};
-use crate::tables::Tables;
+use crate::tables::{Flags, Tables};
 use book::Book;
 
 // The whole extractor: all axioms in force are kept, so worlds need no repair, and no round is counted.
 #[derive(Clone, Copy, Debug)]
 pub struct Whole;
 
-// Adds the names of the axioms in a set to a list.
-fn list_names(listed: &mut [bool; 1024], book: &Book, kept: &[bool; 1024])
+// Adds the names of the axioms in a set to a list. A part goes through its axioms in the same way, and has a loop of its
+// own: an iterator for both would be longer than the two loops.
+fn list_names(listed: &mut Flags, book: &Book, kept: &Flags)
     ensures { ListedTo (contents book.now) (axiom_count (contents book.now)) (set_of kept.now) (listed_in listed.old) listed.new }
 {
     for (filed, is_kept) in book.axioms().iter().zip(kept) {

@@ -4,7 +4,7 @@ ghost use Rattle.terms.specs.Tables.{nodes_of};
 ghost use Rattle.locality.specs.Tables.{listed_in, is_filling, outside, empty_term, full_term, local_rule};
 
 use crate::filling::Filling;
-use terms::{Axiom, Term, TermId, Terms};
+use terms::{Axiom, MOST_LEVELS, Term, TermId, Terms};
 use vocabulary::NameId;
 
 // What an axiom is tested against: a list of names, and what the names outside it are set to.
@@ -81,7 +81,7 @@ impl Checks<'_> {
     fn never(&self, id: TermId) -> bool
         ensures { result ≡ empty_term self.now.filling (listed_in self.now.listed.now) (meaning (nodes_of self.now.terms.now) id) }
     {
-        self.is_empty(id, 24)
+        self.is_empty(id, MOST_LEVELS)
     }
 
     // Whether the whole term is full by its form.
@@ -89,7 +89,7 @@ impl Checks<'_> {
     fn always(&self, id: TermId) -> bool
         ensures { result ≡ full_term self.now.filling (listed_in self.now.listed.now) (meaning (nodes_of self.now.terms.now) id) }
     {
-        self.is_full(id, 24)
+        self.is_full(id, MOST_LEVELS)
     }
 
     // The axiom is local against the list.

@@ -32,7 +32,8 @@ use Rattle.records.specs.Loading.{record_turn, taken_as, done, name_record, seed
 use Rattle.part.specs.Order.{all_bytes, seed_number}
 use Rattle.terms.specs.Codes.{kind_number}
 use Rattle.part.specs.Parts.{name_entry, seed_entry, axiom_entry, forced}
-use Rattle.part.proofs.Split.{refused_not, byte_at, two_back}
+use Rattle.part.proofs.Split.{refused_not, byte_at}
+use Rattle.terms.proofs.Numbers.{chosen, none_chosen, two_bytes_are}
 
 -- a call that a test might refuse was not refused by it
 passed : {S A F : Type 0} (t : Bool) (s : S) (f : F) (turn : Turn S A F) (m : S) (x : A) → cond t (refused s f) turn ≡ accepted m x → turn ≡ accepted m x
@@ -57,26 +58,22 @@ taken_ok up t m h =
 bounded_ok : (b m : Contents) (body : List ℕ) (t : Turn Contents (Unit {0}) BookFault) → bounded b body t ≡ accepted m tt → t ≡ accepted m tt
 bounded_ok b m body t h = (taken_ok Book t m (passed (ltb 512 (length body)) b BodyTooLong (taken_as Book t) m tt h)).1
 
--- a number that stands for the first of some values, or for one of the others
-stands_for : {X : Type 0} (number : X → ℕ) (n : ℕ) (x y : X) (others : Option X) → cond (eqb n (number x)) (Some x) others ≡ Some y → (others ≡ Some y → number y ≡ n) → number y ≡ n
-stands_for number n x y others h other = go (eqb n (number x)) refl h
-  where
-    go : (t : Bool) → eqb n (number x) ≡ t → cond t (Some x) others ≡ Some y → number y ≡ n
-    go true is e = let same : x ≡ y = cc in sym (ap number same) ∙ sym (eqb-true n (number x) is)
-    go false is e = other e
+kind_byte : (n : ℕ) (k : Kind) → kind_of n ≡ Some k → n ≡ code_of k
+kind_byte n =
+    let more = chosen code_of n in
+    more 0 Concept _ refl (more 1 Role _ refl (more 2 Individual _ refl (none_chosen code_of n)))
 
-none_not : {X : Type 0} (y : X) → None ≡ Some y → ⊥
-none_not y h = cc
-
-kind_byte : (n : ℕ) (k : Kind) → kind_of n ≡ Some k → code_of k ≡ n
-kind_byte n k h =
-    stands_for code_of n Concept k _ h (λ h. stands_for code_of n Role k _ h (λ h. stands_for code_of n Individual k _ h (λ h. absurd (none_not k h))))
-
-axiom_number : (n : ℕ) (k : AxiomKind) → axiom_kind_of n ≡ Some k → kind_number k ≡ n
-axiom_number n k h =
-    stands_for kind_number n Inclusion k _ h (λ h. stands_for kind_number n Equivalence k _ h (λ h. stands_for kind_number n RoleInclusion k _ h (λ h.
-    stands_for kind_number n Transitive k _ h (λ h. stands_for kind_number n Functional k _ h (λ h. stands_for kind_number n ConceptAssertion k _ h (λ h.
-    stands_for kind_number n RoleAssertion k _ h (λ h. absurd (none_not k h))))))))
+axiom_number : (n : ℕ) (k : AxiomKind) → axiom_kind_of n ≡ Some k → n ≡ kind_number k
+axiom_number n =
+    let more = chosen kind_number n in
+    more 16 Inclusion _ refl
+    (more 17 Equivalence _ refl
+    (more 18 RoleInclusion _ refl
+    (more 19 Transitive _ refl
+    (more 20 Functional _ refl
+    (more 21 ConceptAssertion _ refl
+    (more 22 RoleAssertion _ refl
+    (none_chosen kind_number n)))))))
 
 -- ---- a name
 
@@ -92,7 +89,7 @@ name_made es ns n l i = go (kind_of n) (labelling l) refl refl
         let done = accepted (es ++ fresh k m ∷ []) (record { 0 = length es }) in
         let free = passed (held k m es) es LabelTaken (cond (leb 1024 (length es)) (refused es TableFull) done) ns i h in
         let made = ap (λ t. t.state) (passed (leb 1024 (length es)) es TableFull done ns i free) in
-        (k, kind_byte n k is, sym made ∙ ap (λ x. es ++ fresh k x ∷ []) (labelling_same l m (sym own)))
+        (k, sym (kind_byte n k is), sym made ∙ ap (λ x. es ++ fresh k x ∷ []) (labelling_same l m (sym own)))
 
 -- a record with its kind and its body written in another way
 entry_is : (e : Entry) (kind : ℕ) (body : List ℕ) → e.kind ≡ kind → e.body ≡ body → e ≡ record { kind = kind; body = body }
@@ -127,7 +124,7 @@ seed_made b m (low ∷ high ∷ []) bytes h = go (ltb (low + 256 * high) (length
 
     go : (t : Bool) → ltb (low + 256 * high) (length b.names) ≡ t → cond t (accepted {A = Unit {0}} done tt) (refused b (Item (WrongName 0))) ≡ accepted m tt → (low + 256 * high < length b.names) × (low ∷ high ∷ [] ≡ two_bytes (low + 256 * high)) × (m ≡ done)
     go true is e =
-        (ltb-true (low + 256 * high) (length b.names) is, sym (two_back low high (byte_at (low ∷ high ∷ []) bytes 0)), sym (ap (λ t. t.state) e))
+        (ltb-true (low + 256 * high) (length b.names) is, sym (two_bytes_are low high (byte_at (low ∷ high ∷ []) bytes 0)), sym (ap (λ t. t.state) e))
     go false is e = absurd (refused_not _ _ _ _ e)
 seed_made b m (low ∷ high ∷ x ∷ rest) bytes h =
     absurd (refused_not _ _ _ _ (passed (ltb (low + 256 * high) (length b.names)) b (LeftOver 2) (refused b (Item (WrongName 0))) m tt h))
@@ -171,5 +168,5 @@ axiom_was b m e bytes not neither h =
     let call = taken_ok (λ f. f) (filing_of b (axiom_kind_of e.kind) e.body) m turn in
     let kind = kind_filed b m (axiom_kind_of e.kind) e.body call.0 call.1 in
     let made = body_filed b m kind.0 e.body call.0 bytes kind.2 in
-    let number = sym (axiom_number e.kind kind.0 kind.1) ∙ ap kind_number (sym made.1) in
+    let number = axiom_number e.kind kind.0 kind.1 ∙ ap kind_number (sym made.1) in
     (made.0, entry_is e _ _ number made.2, made.3)

@@ -1,6 +1,6 @@
 -- Records as bytes: one that stands at a place of a file is read there, and records that are taken one after the other
 -- are what loading takes.
-use Rattle.std.proofs.Common.{◌≡◌, ℕ, zero, suc, ◌+◌, ◌*◌, ◌/◌, ◌%◌, ◌≤◌, List, [], ◌∷◌, ◌++◌, length, get_or, take, drop, Ok, sym, refl, ap, ◌∙◌, ap₂, append_assoc, arith, length-append, length-drop, get_or-drop, drop-drop, take_at, drop_at}
+use Rattle.std.proofs.Common.{◌≡◌, ℕ, zero, suc, ◌+◌, ◌*◌, ◌/◌, ◌%◌, ◌≤◌, List, [], ◌∷◌, ◌++◌, length, get_or, take, drop, Ok, sym, refl, ap, ◌∙◌, ap₂, arith, length-append, length-drop, get_or-drop, drop-drop, take_at, drop_at}
 use Rattle.std.proofs.lemmas.Bool.{le-ltb, le-leb, lt-leb, cond-true, cond-false}
 use Rattle.vocabulary.specs.Naming.{accepted}
 use Rattle.book.specs.Contents.{Contents}
@@ -61,11 +61,6 @@ takes_append (x ∷ xs) ys b m c s t = (s.0, s.1, takes_append xs ys s.0 m c s.2
 pub records_few : (es : List Entry) → length es ≤ length (file_bytes es)
 records_few [] = omega arith
 records_few (e ∷ es) = let rest = records_few es in omega (arith, length-append e.body (file_bytes es))
-
--- the bytes of records, and of more after them
-pub file_append : (xs ys : List Entry) → file_bytes (xs ++ ys) ≡ file_bytes xs ++ file_bytes ys
-file_append [] ys = refl
-file_append (x ∷ xs) ys = ap (λ l. record_bytes x ++ l) (file_append xs ys) ∙ sym (append_assoc (record_bytes x) (file_bytes xs) (file_bytes ys))
 
 -- loading takes the records that are written from a place on
 pub takes_loads : (file : List ℕ) (es : List Entry) (most at taken : ℕ) (b c : Contents) → drop at file ≡ file_bytes es → length es ≤ most → Takes b es c → loads most file b at taken ≡ accepted c (taken + length es)

@@ -4,6 +4,8 @@ use lib.Seq.{append_snoc}
 use Rattle.std.proofs.lemmas.List.{get_or-map, map_push}
 use Rattle.std.proofs.lemmas.List.Folds.{list_all-append}
 use Rattle.std.proofs.lemmas.Bool.{leb-true, eqb-true, not-true, and_parts, and_from, cond-true, cond-false}
+use Rattle.std.proofs.lemmas.List.Elements.{All-drop}
+use Rattle.std.proofs.lemmas.List.Sums.{AllPass-from_list_all, list_all-from_AllPass}
 use Rattle.vocabulary.specs.Entities.{Entity, reseed}
 use Rattle.std.specs.List.{list_all}
 use Rattle.vocabulary.specs.Naming.{accepted, fresh}
@@ -25,9 +27,7 @@ use Rattle.part.proofs.ReadsBack.{part_entries, part_file}
 
 module _ {X : Type 0} (p : X → Bool) where
   list_all_drop : (n : ℕ) (xs : List X) → list_all p xs ≡ true → list_all p (drop n xs) ≡ true
-  list_all_drop zero xs h = h
-  list_all_drop (suc n) [] h = refl
-  list_all_drop (suc n) (x ∷ xs) h = list_all_drop n xs (and_parts (p x) _ h).1
+  list_all_drop n xs h = list_all-from_AllPass p (drop n xs) (All-drop (λ x. p x ≡ true) n xs (AllPass-from_list_all p xs h))
 
   -- from a place on, and so from every later one
   list_all_later : (m n : ℕ) (xs : List X) → m ≤ n → list_all p (drop m xs) ≡ true → list_all p (drop n xs) ≡ true

@@ -11,10 +11,11 @@ use Rattle.book.specs.Calls.{empty}
 use Rattle.records.specs.Files.{Entry}
 use Rattle.records.specs.Loading.{loading}
 use Rattle.extraction.specs.Sets.{Marks}
-use Rattle.part.specs.Parts.{file_bytes, name_entry, seed_entry, axiom_entry, seeds_from, kept_from, forced, part_bytes, part_contents, record_count}
+use Rattle.std.proofs.lemmas.List.Concat.{flat_map-append}
+use Rattle.part.specs.Parts.{record_bytes, file_bytes, name_entry, seed_entry, axiom_entry, seeds_from, kept_from, forced, part_bytes, part_contents, record_count}
 use Rattle.part.specs.Proper.{Proper}
 use Rattle.part.proofs.RoundTrips.{LoadsBack}
-use Rattle.part.proofs.Entries.{Takes, takes_append, takes_loads, file_append, records_few}
+use Rattle.part.proofs.Entries.{Takes, takes_append, takes_loads, records_few}
 use Rattle.part.proofs.NamesTaken.{plain, unseeded, names_taken}
 use Rattle.part.proofs.SeedsTaken.{no_axioms, seeds_taken}
 use Rattle.part.proofs.AxiomsTaken.{axioms_taken}
@@ -51,7 +52,7 @@ module _ (b : Contents) (kept : Marks) where
   -- written, they are the part
   pub part_file : part_bytes b kept ≡ file_bytes part_entries
   part_file =
-      sym (file_append (map name_entry b.names) _ ∙ ap (λ l. file_bytes (map name_entry b.names) ++ l) (file_append (map seed_entry (seeds_from 0 b.names)) _))
+      sym (flat_map-append record_bytes (map name_entry b.names) _ ∙ ap (λ l. file_bytes (map name_entry b.names) ++ l) (flat_map-append record_bytes (map seed_entry (seeds_from 0 b.names)) _))
 
   part_count : length part_entries ≡ record_count b kept
   part_count = simp (length-append, length-map)

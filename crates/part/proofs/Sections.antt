@@ -1,6 +1,7 @@
 -- The sections of a part, with one record more and one fewer.
 use Rattle.std.proofs.Common.{◌≡◌, ℕ, zero, suc, ◌+◌, ◌*◌, ◌^◌, ◌<◌, ◌≤◌, Bool, true, false, cond, leb, List, [], ◌∷◌, ◌++◌, map, length, get_or, take, sym, ap, ◌∙◌, subst, append-nil, add-zero, arith, length-append, length-take}
 use lib.ListN.{length-map}
+use Rattle.std.proofs.lemmas.List.Concat.{flat_map-append}
 use Rattle.std.proofs.lemmas.List.Sums.{sum_by-cons}
 use Rattle.vocabulary.specs.Labels.{fitting}
 use Rattle.std.specs.List.{list_all}
@@ -18,7 +19,6 @@ use Rattle.extraction.specs.Sets.{Marks}
 use Rattle.records.specs.Files.{Entry}
 use Rattle.part.specs.Parts.{record_bytes, file_bytes, name_entry, seed_entry, axiom_entry, name_as_record, seed_as_record, axiom_as_record, seeds_from, kept_from, part_bytes, part_names, part_seeds, part_axioms}
 use Rattle.part.specs.Proper.{Proper, well_labelled}
-use Rattle.part.proofs.Entries.{file_append}
 
 -- ---- the bytes of the first names and axioms of a book
 
@@ -32,7 +32,7 @@ abbrev pub axioms_bytes : List Term → Marks → List Filed → List ℕ
 axioms_bytes ts kept fs = file_bytes (map axiom_entry (kept_from 0 kept (map (filing ts) fs)))
 
 record_more : (es : List Entry) (e : Entry) → file_bytes (es ++ e ∷ []) ≡ file_bytes es ++ record_bytes e
-record_more es e = file_append es (e ∷ []) ∙ ap (λ l. file_bytes es ++ l) (append-nil (record_bytes e))
+record_more es e = flat_map-append record_bytes es (e ∷ []) ∙ ap (λ l. file_bytes es ++ l) (append-nil (record_bytes e))
 
 -- a first element that is there or not
 cond_push : {X : Type 0} (on : Bool) (x : X) (all front last : List X) → all ≡ front ++ last → cond on (x ∷ all) all ≡ cond on (x ∷ front) front ++ last

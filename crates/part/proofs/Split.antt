@@ -1,9 +1,10 @@
 -- A file that loading accepts is its records one after the other, and each of them is taken.
-use Rattle.std.proofs.Common.{◌≡◌, ℕ, zero, suc, ◌+◌, ◌*◌, ◌<◌, ◌≤◌, Bool, true, false, cond, ltb, leb, List, [], ◌∷◌, ◌++◌, length, get_or, take, drop, Ok, Err, Result, sym, refl, ap, ◌∙◌, subst, ap₂, arith, length-drop, take-append-drop, length-take, drop-drop}
+use Rattle.std.proofs.Common.{◌≡◌, ℕ, zero, suc, ◌+◌, ◌<◌, ◌≤◌, Bool, true, false, cond, ltb, leb, List, [], ◌∷◌, ◌++◌, length, get_or, take, drop, Ok, Err, Result, sym, refl, ap, ◌∙◌, subst, ap₂, arith, length-drop, take-append-drop, length-take, drop-drop}
 use Rattle.std.proofs.lemmas.List.{drop_all, drop_more}
 use Rattle.std.proofs.lemmas.Bool.{leb-true, ltb-true, ltb-false, and_parts}
 use Rattle.vocabulary.specs.Naming.{accepted, refused}
 use Rattle.terms.specs.Writing.{two_bytes}
+use Rattle.terms.proofs.Numbers.{two_bytes_are}
 use Rattle.book.specs.declared.fault.FileFault.{FileFault}
 use Rattle.book.specs.declared.fault.FileFault.TheVariants.{CutShort}
 use Rattle.book.specs.Contents.{Contents}
@@ -23,17 +24,13 @@ byte_at [] h i = omega arith
 byte_at (x ∷ xs) h zero = ltb-true x 256 (and_parts (ltb x 256) _ h).0
 byte_at (x ∷ xs) h (suc i) = byte_at xs (and_parts (ltb x 256) _ h).1 i
 
--- a number of two bytes is written as these
-pub two_back : (low high : ℕ) → low < 256 → two_bytes (low + 256 * high) ≡ low ∷ high ∷ []
-two_back low high h = ap₂ (λ x y. x ∷ y ∷ []) (omega arith) (omega arith)
-
 -- what is read as a record is written so
 module _ (file : List ℕ) (bytes : all_bytes file ≡ true) (at : ℕ) where
   words : (n : ℕ) → n + 2 ≤ length file → drop n file ≡ two_bytes (word_at file n) ++ drop (n + 2) file
   words n h =
       drop_more file n 0 (omega arith) ∙
       ap (λ l. get_or file n 0 ∷ l) (drop_more file (n + 1) 0 (omega arith)) ∙
-      ap₂ ◌++◌ (sym (two_back (get_or file n 0) (get_or file (n + 1) 0) (byte_at file bytes n))) (ap (λ m. drop m file) (omega arith))
+      ap₂ ◌++◌ (sym (two_bytes_are (get_or file n 0) (get_or file (n + 1) 0) (byte_at file bytes n))) (ap (λ m. drop m file) (omega arith))
 
   -- what a record at this place holds
   abbrev here : Entry

@@ -1,6 +1,7 @@
 -- The part of a book that a set of its axioms makes, as a file of records: all names in the order of their numbers, then
 -- the numbers of the seeded names, ascending and each once, then the axioms of the set in the order filed.
 use Rattle.std.specs.Prelude.{ℕ, suc, ◌+◌, true, cond, List, [], ◌∷◌, ◌++◌, map, length}
+use Rattle.std.specs.List.{flat_map}
 use Rattle.vocabulary.specs.Entities.{Entity}
 use Rattle.vocabulary.specs.Kinds.{code_of}
 use Rattle.terms.specs.Forms.{Rule}
@@ -17,8 +18,7 @@ record_bytes e = two_bytes (length e.body) ++ (two_bytes e.kind ++ e.body)
 
 -- records one after the other
 abbrev pub file_bytes : List Entry → List ℕ
-file_bytes [] = []
-file_bytes (e ∷ es) = record_bytes e ++ file_bytes es
+file_bytes es = flat_map record_bytes es
 
 -- the record of a name: its kind byte, then its label
 abbrev pub name_entry : Entity → Entry

@@ -1,11 +1,12 @@
 -- What writing a part answers, and what it leaves in its three buffers.
-use Rattle.std.specs.Prelude.{◌≡◌, ℕ, Bool, true, cond, ◌||◌, List, ◌++◌, length, drop, Ok, Result, ◌==◌, nat_lt, slice_index}
+use Rattle.std.specs.Prelude.{◌≡◌, ℕ, Bool, true, cond, ◌||◌, List, ◌++◌, length, drop, Ok, Result, nat_lt}
 use Rattle.vocabulary.specs.Naming.{Turn, accepted, refused}
 use Rattle.book.specs.Contents.{Contents}
 use Rattle.book.specs.Calls.{contents, empty}
 use Rattle.records.specs.Loading.{loading}
 use Rattle.extraction.specs.declared.marking.MarkFault.{MarkFault}
 use Rattle.extraction.specs.declared.marking.MarkFault.TheVariants.{EmptySignature, ShortBuffer}
+use Rattle.extraction.specs.Listing.{set_of}
 use Rattle.extraction.specs.Marking.{by_number, overwritten, unseeded, too_short}
 use Rattle.extraction.specs.Sets.{Marks, axiom_count, name_count, is_in_force, closed_signature}
 use Rattle.part.specs.declared.writing.sections.Part.{Part}
@@ -57,13 +58,9 @@ pub record WritesAs (axioms names part : List ℕ) (r : Result ℕ MarkFault) (t
   pub buffers : record { axioms = axioms; names = names; part = part } ≡ turn.state
   pub answer : r ≡ turn.answer
 
--- the numbers whose byte is 1
-abbrev pub flagged : List ℕ → Marks
-flagged bytes k = slice_index bytes k == 1
-
 -- the bytes of a part that is at hand, and those of its axioms
 abbrev pub part_written : Part → List ℕ
-part_written p = part_bytes (contents p.book.now) (flagged p.kept.now)
+part_written p = part_bytes (contents p.book.now) (set_of p.kept.now)
 
 abbrev pub axioms_written : Part → List ℕ
-axioms_written p = part_axioms (contents p.book.now) (flagged p.kept.now)
+axioms_written p = part_axioms (contents p.book.now) (set_of p.kept.now)

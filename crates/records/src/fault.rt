@@ -50,6 +50,8 @@ impl LoadFault {
     }
 }
 
+// The reason in words. Each type of faults has these lines: Display cannot be written for all types of a trait at once,
+// and what a derive writes has no contract.
 impl fmt::Display for LoadFault {
     ghost use Rattle.records.specs.Stops.{stop_of, load_refusal};
 

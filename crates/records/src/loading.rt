@@ -22,10 +22,10 @@ fn load_records(draft: &mut Draft, file: &[u8]) -> Result<usize, LoadFault>
 {
     let mut reader = RecordReader { file, at: 0 };
     let mut taken = 0;
-    // the records are no iterator: each item would have to carry its offset, for the fault that it may have
+    // the records are no iterator: an item would be an offset and a result, and the iterator would have to end after a fault
     while reader.at < file.len() {
         let offset = reader.at;
-        // what a closure in a `map_err` makes of the fault stays open in the proof
+        // a closure in a `map_err` knows nothing of its argument, and the fault's field `near` needs what the step promises
         if let Err(fault) = step(draft, &mut reader) {
             return Err(LoadFault {
                 offset,

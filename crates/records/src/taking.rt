@@ -5,7 +5,7 @@ ghost use Rattle.records.specs.Reading.{entry_of};
 
 use crate::kind::RecordKind;
 use crate::reader::Record;
-use book::{BookFault, Draft, FileFault};
+use book::{BookFault, Draft, FileFault, LONGEST_BODY};
 use terms::ItemFault;
 use vocabulary::{NameFault, NameId};
 
@@ -42,7 +42,7 @@ pub(crate) fn take(draft: &mut Draft, entry: Record<'_>) -> Result<(), FileFault
     ensures { Gives draft.new.book result (record_turn (contents draft.old.book) (entry_of entry.entry)) }
 {
     let kind = RecordKind::try_from(entry.kind).map_err(|_| FileFault::UnknownKind)?;
-    if entry.body.len() > 512 {
+    if entry.body.len() > LONGEST_BODY {
         return Err(FileFault::BodyTooLong);
     }
     match kind {

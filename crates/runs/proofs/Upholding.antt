@@ -1,5 +1,5 @@
 -- What was marked is what follows from the calls.
-use Rattle.std.proofs.Common.{◌≡◌, ℕ, true, List, [], ◌∷◌, ◌++◌, Some, Option, Result, refl, ap, ◌∙◌, subst}
+use Rattle.std.proofs.Common.{◌≡◌, ℕ, true, List, Some, Option, Result, ap, ◌∙◌, subst}
 use Rattle.book.specs.Contents.{Contents}
 use Rattle.locality.specs.Worlds.{World}
 use Rattle.extraction.specs.declared.marking.Marking.{Marking}
@@ -9,7 +9,7 @@ use Rattle.extraction.specs.Marking.{Buffers, MarksAs, marking}
 use Rattle.extraction.specs.Sets.{Marks, Sound}
 use Rattle.runs.specs.declared.state.State.{State}
 use Rattle.runs.specs.declared.state.State.TheVariants.{Draft, Frozen}
-use Rattle.runs.specs.Steps.{Step, Standing, standing, performing, performed, drawn}
+use Rattle.runs.specs.Steps.{Step, Standing, standing, drawn}
 use Rattle.runs.specs.History.{book_after, history}
 use Rattle.runs.specs.Promise.{Attempts, Promised, attempt, follows}
 use Rattle.runs.proofs.Told.{book_told}
@@ -38,8 +38,3 @@ module _ (kept : Contents → Marks) (rounds : Contents → ℕ) where
 pub state_sound : (s : State) → Sound (standing s).book
 state_sound (Draft d) = d.book.right
 state_sound (Frozen f) = f.book.right
-
--- calls behind calls
-pub performed_append : (s : Standing) (cs ds : List Step) → performed s (cs ++ ds) ≡ performed (performed s cs) ds
-performed_append s [] ds = refl
-performed_append s (c ∷ cs) ds = performed_append (performing s c).after cs ds

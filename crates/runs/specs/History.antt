@@ -1,6 +1,6 @@
 -- What follows from a list of calls alone: whether the book is frozen; the names made and the axioms filed, in their
 -- order; which axioms are in force, and which names are in the signature.
-use Rattle.std.specs.Prelude.{ℕ, zero, suc, ◌+◌, Bool, true, false, cond, not, ◌&&◌, ◌||◌, List, [], ◌∷◌, ◌++◌, length, take, drop, Some, None, Ok, Err, Option, Result, ◌==◌, slice_index}
+use Rattle.std.specs.Prelude.{ℕ, zero, suc, ◌+◌, Bool, true, false, cond, not, ◌&&◌, ◌||◌, List, [], ◌∷◌, ◌++◌, length, take, drop, Some, None, Ok, Err, Option, Result, fold, ◌==◌, slice_index}
 use Rattle.vocabulary.specs.declared.kind.Kind.{Kind}
 use Rattle.vocabulary.specs.Kinds.{kind_of}
 use Rattle.terms.specs.Codes.{axiom_kind_of}
@@ -204,8 +204,7 @@ after_one_record past e =
     (cond (e.kind == 32) (after_seeding past (word_at e.body 0)) (after_filing past e.kind e.body))
 
 abbrev pub after_records : List Event → List Entry → List Event
-after_records past [] = past
-after_records past (e ∷ es) = after_records (after_one_record past e) es
+after_records past es = fold after_one_record past es
 
 -- a loading counts by the records it took, each as the naming, filing or seeding that it asks for; a fault behind them
 -- takes nothing back
@@ -233,8 +232,7 @@ told past reopen = cond (is_frozen past) (reopened ∷ past) past
 
 -- the events after a list of calls
 abbrev pub recounted : List Step → List Event → List Event
-recounted [] past = past
-recounted (c ∷ cs) past = recounted cs (told past c)
+recounted cs past = fold told past cs
 
 -- what happened in a list of calls on an empty draft
 abbrev pub history : List Step → List Event

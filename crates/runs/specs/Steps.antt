@@ -1,5 +1,5 @@
 -- Calls as data, and what a list of them does to a book that is a draft or frozen.
-use Rattle.std.specs.Prelude.{ℕ, Bool, true, false, List, [], ◌∷◌, Some, None, Ok, Err, vec_items, Option, Result}
+use Rattle.std.specs.Prelude.{ℕ, Bool, true, false, List, Some, None, Ok, Err, vec_items, Option, Result, fold}
 use Rattle.vocabulary.specs.Naming.{Turn}
 use Rattle.book.specs.Contents.{Contents}
 use Rattle.book.specs.Calls.{contents, empty, naming_call, seeding_call, forcing_call, filing_call}
@@ -95,8 +95,7 @@ performing s c = perform_from s.frozen s.book c
 
 -- the calls of a list, one after the other
 abbrev pub performed : Standing → List Step → Standing
-performed s [] = s
-performed s (c ∷ cs) = performed (performing s c).after cs
+performed s cs = fold (λ t c. (performing t c).after) s cs
 
 -- what a list of calls makes of an empty book
 abbrev pub drawn : List Step → Standing

@@ -58,7 +58,8 @@ impl fmt::Display for CallFault {
 
 impl Error for CallFault {}
 
-// What a call answers: the number of the new name or axiom, or of the records taken, where it has one to tell.
+// What a call answers: the number of the new name or axiom, or how many records were taken, where it has one to tell. No type
+// says which of these the number is: the call does, and a script prints it the same whichever it is.
 pub type Outcome = Result<Option<usize>, CallFault>;
 
 // An outcome as the answer to a call in a script.

@@ -74,8 +74,8 @@ impl Extractor for Pile {
 impl Pile {
     ghost use Rattle.runs.specs.Stacks.{stack_of};
 
-    // Marks a book through the pile; a draft cannot be marked. This and the next two are calls of their own since the promise
-    // of a pile by its name is told on them.
+    // Marks a book through the pile; a draft cannot be marked. This and the next two are calls of their own, since
+    // their clauses name what a pile keeps, its repair and its laws outright, where the generic ones name an extractor's.
     pub fn mark(
         self,
         state: &State,

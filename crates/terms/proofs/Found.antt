@@ -1,6 +1,6 @@
 -- What a reading gives stands in the body byte for byte, and is well formed.
-use Rattle.std.proofs.Common.{◌≡◌, ℕ, zero, suc, ◌+◌, ◌*◌, ◌/◌, ◌%◌, ◌<◌, ◌≤◌, Bool, true, false, cond, eqb, leb, List, [], ◌∷◌, length, get_or, Some, None, Option, refl, ap, ◌∙◌, arith}
-use Rattle.std.proofs.lemmas.Bool.{ltb-true, leb-true, le-leb, eqb-true, and_from}
+use Rattle.std.proofs.Common.{◌≡◌, ℕ, zero, suc, ◌<◌, ◌≤◌, Bool, true, false, cond, leb, List, [], ◌∷◌, length, get_or, Some, None, refl, arith}
+use Rattle.std.proofs.lemmas.Bool.{ltb-true, leb-true, le-leb, and_from}
 use Rattle.vocabulary.specs.declared.kind.Kind.{Kind}
 use Rattle.vocabulary.specs.declared.kind.Kind.TheVariants as Kind'
 use Rattle.vocabulary.specs.declared.name.NameId.{NameId}
@@ -12,40 +12,14 @@ use Rattle.terms.specs.declared.code.Code.TheVariants.{Nothing, Everything, Conc
 use Rattle.terms.specs.declared.code.Direction.{Direction}
 use Rattle.terms.specs.declared.code.Direction.TheVariants.{Forward, Inverse}
 use Rattle.terms.specs.declared.term.RoleItem.{RoleItem}
-use Rattle.terms.specs.Codes.{code_of, direction_of, count_of}
+use Rattle.terms.specs.Codes.{code_of, code_byte, direction_of, direction_byte, count_of}
 use Rattle.terms.specs.Forms.{Form, Rule, nesting}
 use Rattle.terms.specs.Reading.{Outcome, read_byte, read_number, read_code, read_direction, read_count, read_name, role_item, read_role, read_rest, read_term, read_whole, read_axiom}
 use Rattle.terms.specs.Writing.{two_bytes, name_bytes, role_bytes, term_bytes, body_bytes, rule_kind}
 use Rattle.terms.specs.WellFormed.{name_fits, role_fits, numbers_fit, term_fits, well_formed}
+use Rattle.terms.proofs.Numbers.{chosen, none_chosen, two_bytes_are}
 use Rattle.terms.proofs.Steps.{Yields, yields_each, yields_got, yields_next, yields_known, yields_cond}
 use Rattle.terms.proofs.Stands.{Stands, stands_byte, stands_join}
-
--- the byte of a code, and of a direction
-abbrev code_byte : Code → ℕ
-code_byte Nothing = 0
-code_byte Everything = 1
-code_byte Concept = 2
-code_byte Just = 3
-code_byte Not = 4
-code_byte And = 5
-code_byte Exists = 6
-code_byte AtLeast = 7
-
-abbrev direction_byte : Direction → ℕ
-direction_byte Forward = 0
-direction_byte Inverse = 1
-
--- a choice by the number n, or one of the rest: the byte is that of what is chosen
-module _ {X : Type 0} (byte_of : X → ℕ) (b : ℕ) where
-  chosen : (n : ℕ) (x : X) (rest : Option X) → n ≡ byte_of x → ((y : X) → rest ≡ Some y → b ≡ byte_of y) → (y : X) → cond (eqb b n) (Some x) rest ≡ Some y → b ≡ byte_of y
-  chosen n x rest e later y = go (eqb b n) refl
-    where
-      go : (t : Bool) → eqb b n ≡ t → cond t (Some x) rest ≡ Some y → b ≡ byte_of y
-      go true p h = let q = eqb-true b n p in let s : x ≡ y = cc in q ∙ e ∙ ap byte_of s
-      go false p h = later y h
-
-  none_chosen : (y : X) → None ≡ Some y → b ≡ byte_of y
-  none_chosen y h = absurd (let z : ◌≡◌ {A = ℕ} 0 1 = cc in omega arith)
 
 code_byte_is : (b : ℕ) (c : Code) → code_of b ≡ Some c → b ≡ code_byte c
 code_byte_is b =
@@ -64,12 +38,6 @@ direction_byte_is : (b : ℕ) (d : Direction) → direction_of b ≡ Some d → 
 direction_byte_is b =
     let more = chosen direction_byte b in
     more 0 Forward _ refl (more 1 Inverse _ refl (none_chosen direction_byte b))
-
-two_bytes_are : (low high : ℕ) → low < 256 → two_bytes (low + 256 * high) ≡ low ∷ high ∷ []
-two_bytes_are low high h =
-    let l : (low + 256 * high) % 256 ≡ low = omega arith in
-    let g : (low + 256 * high) / 256 ≡ high = omega arith in
-    rw (l, g) refl
 
 -- a count that is read is the number that stands there
 count_same : (n m : ℕ) → count_of n ≡ Some m → (n ≡ m) × (1 ≤ m)

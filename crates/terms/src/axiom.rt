@@ -47,7 +47,8 @@ impl From<AxiomKind> for u16 {
     }
 }
 
-// An axiom; its terms lie in a table.
+// An axiom; its terms lie in a table. A function that reads one takes the table beside it: a pair of both would be made
+// for each call from the book, which holds them apart, and taken apart in it.
 #[derive(Clone, Copy, Debug)]
 pub enum Axiom {
     // the first concept is included in the second

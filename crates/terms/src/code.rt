@@ -9,7 +9,7 @@ pub struct UnknownCode;
 // The byte that a term begins with says what follows.
 #[derive(Clone, Copy, Debug, PartialEq, Eq, Hash)]
 pub enum Code {
-    Nothing,
+    Nothing = 0,
     Everything,
     Concept,
     Just,
@@ -52,7 +52,7 @@ impl From<Code> for u8 {
 // Which way round a role is taken.
 #[derive(Clone, Copy, Debug, PartialEq, Eq, Hash)]
 pub enum Direction {
-    Forward,
+    Forward = 0,
     Inverse,
 }
 

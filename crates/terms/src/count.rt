@@ -2,7 +2,8 @@ ghost use Rattle.std.specs.Option.{option_map};
 ghost use Rattle.std.specs.Prelude.{◌≡◌, ◌≤◌};
 
 // How many partners "at least" asks for: never 0. That it is not is a field and no model, since it is read off the
-// counts of every term that lies in a table.
+// counts of every term that lies in a table. The library's `NonZeroU16` keeps the same fact, but hides its value, by which
+// the definitions of terms go.
 #[derive(Clone, Copy, Debug, PartialEq, Eq, Hash)]
 pub struct Count {
     pub value: u16,

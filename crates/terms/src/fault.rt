@@ -44,6 +44,8 @@ impl ItemFault {
     }
 }
 
+// The reason in words. Each type of faults has these lines: Display cannot be written for all types of a trait at once,
+// and what a derive writes has no contract.
 impl fmt::Display for ItemFault {
     ghost output = { λ f. Some (reason_text (item_refusal f).reason) };
 

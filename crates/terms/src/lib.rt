@@ -12,5 +12,5 @@ pub use axiom::{Axiom, AxiomKind};
 pub use code::{Code, Direction, UnknownCode};
 pub use count::Count;
 pub use fault::ItemFault;
-pub use table::Terms;
-pub use term::{RoleItem, Term, TermId};
+pub use table::{MOST_NODES, Terms};
+pub use term::{MOST_LEVELS, RoleItem, Term, TermId};

@@ -7,12 +7,15 @@ use crate::term::{Term, TermId};
 use bounded::Bounded;
 use std::alloc::{AllocError, Global};
 
+// How many nodes there is room for.
+pub const MOST_NODES: usize = 33280;
+
 // The nodes of all terms of a book: 32,768 for the bodies that are filed, and 512 for one that is being read. Each
 // node takes at least one byte of its body, so there is room. Terms lie in a table, and not in boxes of their own,
 // since no memory may be claimed after a book is opened.
 #[derive(Drop)]
 pub struct Terms {
-    nodes: Bounded<Term, 33280>,
+    nodes: Bounded<Term, MOST_NODES>,
 }
 
 impl Terms {

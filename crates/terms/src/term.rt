@@ -4,7 +4,8 @@ ghost use Rattle.terms.specs.Roles.{role_name};
 use crate::count::Count;
 use vocabulary::NameId;
 
-// A role, or its inverse: a variant for each way round, as the definitions of terms have them.
+// A role, or its inverse: a variant for each way round, as the definitions of terms have them, which
+// would take a pair of direction and name apart.
 #[derive(Clone, Copy, Debug, PartialEq, Eq, Hash)]
 pub enum RoleItem {
     Forward(NameId),
@@ -21,6 +22,10 @@ impl RoleItem {
         }
     }
 }
+
+// How many terms may stand inside one another. Functions over terms count these levels down: terms lie in a table, and
+// nothing else bounds how deep they go.
+pub const MOST_LEVELS: u8 = 24;
 
 // Where a term lies in its table.
 #[derive(Clone, Copy, Debug, PartialEq, Eq, Hash)]

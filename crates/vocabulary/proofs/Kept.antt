@@ -10,7 +10,7 @@ use Rattle.std.proofs.lemmas.Option.{slice_get_past}
 use Rattle.std.proofs.lemmas.List.{map_push}
 use Rattle.std.proofs.lemmas.Bool.Decides.{nat_tests}
 use Rattle.vocabulary.specs.Kinds.{code_of}
-use Rattle.std.proofs.lemmas.List.Folds.{list_any-append, list_any_at}
+use Rattle.std.proofs.lemmas.List.Folds.{list_any-append}
 use Rattle.vocabulary.specs.declared.fault.NameFault.TheVariants.{LabelLength, LabelByte}
 use Rattle.vocabulary.specs.Labels.{fitting, graphics}
 use Rattle.vocabulary.specs.Entities.{labelling, label_of, Entity, entity, held, distinct, named, kind_at, reseed}
@@ -95,9 +95,6 @@ reseed_apart ns later n on e h = ap distinct e ∙ reseed_distinct (map entity n
 pub held_names : (k : Kind) (l : List ℕ) (ns : List Name) → list_any (λ n. named k l (entity n)) ns ≡ held k l (map entity ns)
 held_names k l [] = refl
 held_names k l (n ∷ ns) = ap (λ b. named k l (entity n) || b) (held_names k l ns)
-
-pub held_at : (k : Kind) (l : List ℕ) (ns : List Name) (i : ℕ) (n : Name) → i < length ns → n ≡ get_or ns i n → named k l (entity n) ≡ true → true ≡ held k l (map entity ns)
-held_at k l ns i n h e t = sym (sym (held_names k l ns) ∙ list_any_at (λ m. named k l (entity m)) ns i n h (ap (λ m. named k l (entity m)) (sym e) ∙ t))
 
 -- a name was added where there was room
 pub names_pushed : (limit : ℕ) (r : Option ℕ) (ns later : List Name) (n : Name) → limit ≤ 1024 → (IsSome r → length ns < limit) → OnSome r (later ≡ ns ++ n ∷ []) → IfNone r (later ≡ ns) → length ns ≤ 1024 → distinct (map entity ns) ≡ true → held n.kind (label_of n.label) (map entity ns) ≡ false → (length later ≤ 1024) × (distinct (map entity later) ≡ true)

@@ -1,5 +1,5 @@
 -- The names of a book: each has a kind, a label, and stands in the signature or not.
-use Rattle.std.specs.Prelude.{ℕ, zero, suc, Bool, true, cond, not, ◌&&◌, List, [], ◌∷◌, take, Ok, Err, Option, Result, slice_get}
+use Rattle.std.specs.Prelude.{ℕ, zero, suc, Bool, true, cond, not, ◌&&◌, List, [], ◌∷◌, Ok, Err, Option, Result, slice_get}
 use Rattle.std.specs.List.{list_any}
 use Rattle.std.specs.Str.{bytes_eq}
 use Rattle.std.specs.Option.{ok_or, option_map}
@@ -18,7 +18,7 @@ pub record Entity : Type 0 where
   pub seeded : Bool
 
 abbrev pub label_of : Label → List ℕ
-label_of l = take l.len l.bytes
+label_of l = l.text.bytes
 
 abbrev pub entity : Name → Entity
 entity n = record { kind = n.kind; label = label_of n.label; seeded = n.seeded }

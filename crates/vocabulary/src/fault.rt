@@ -39,6 +39,8 @@ impl NameFault {
     }
 }
 
+// The reason in words. Each type of faults has these lines: Display cannot be written for all types of a trait at once,
+// and what a derive writes has no contract.
 impl fmt::Display for NameFault {
     ghost output = { λ f. Some (reason_text (name_refusal f).reason) };
 

@@ -8,7 +8,7 @@ use std::fmt;
 // What a name stands for: a set of things, a relation between things, or one thing.
 #[derive(Clone, Copy, Debug, PartialEq, Eq, Hash)]
 pub enum Kind {
-    Concept,
+    Concept = 0,
     Role,
     Individual,
 }

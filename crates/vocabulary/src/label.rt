@@ -1,20 +1,20 @@
-ghost use Rattle.std.specs.Prelude.{◌≡◌, ◌≤◌, true, length, take};
-ghost use Rattle.vocabulary.specs.Labels.{graphic, graphics};
+ghost use Rattle.std.specs.Prelude.{◌≡◌, ◌≤◌, true, length, Some};
+ghost use Rattle.vocabulary.specs.Labels.{fitting, graphic, graphics};
 
 use crate::fault::NameFault;
-use std::fmt;
+use arrayvec::ArrayString;
+use std::{fmt, str};
 
-// The label of a name: 1 to 32 bytes, each from 33 to 126. It is kept inline, in a buffer with its length beside it: no
-// memory may be claimed after a book is opened, and the library's inline vector cannot be copied as a label can.
+// How many bytes a label may have.
+const LONGEST: usize = 32;
+
+// The label of a name: 1 to 32 bytes, each from 33 to 126. It is kept inline, since no memory may be claimed after a book
+// is opened.
 #[derive(Clone, Copy, Debug)]
 pub struct Label {
-    bytes: [u8; 32],
-    len: usize,
-    // that there is a byte is said of the length and of the bytes: a lemma over labels does not see the array's size
-    ghost some: { 1 ≤ len },
-    ghost nonempty: { 1 ≤ length (take len bytes) },
-    ghost short: { len ≤ 32 },
-    ghost clean: { graphics (take len bytes) ≡ true },
+    text: ArrayString<LONGEST>,
+    ghost fits: { fitting text.bytes ≡ true },
+    ghost clean: { graphics text.bytes ≡ true },
 }
 
 fn is_graphic(byte: u8) -> bool
@@ -29,14 +29,15 @@ fn all_graphic(bytes: &[u8]) -> bool
     bytes.iter().all(|byte| is_graphic(*byte))
 }
 
-// The text, and zeros up to 32 bytes.
-fn padded(text: &[u8]) -> [u8; 32]
-    requires { length text.now ≤ 32 }
-    ensures { take (length text.now) result ≡ text.now }
+// The same bytes as a text that is kept inline.
+#[tactic(auto, using(crate::proofs::Texts::graphic_text))]
+fn inline(bytes: &[u8]) -> ArrayString<LONGEST>
+    requires short { length bytes.now ≤ 32 }
+    requires clean { graphics bytes.now ≡ true }
+    ensures { result.bytes ≡ bytes.now }
 {
-    let mut bytes = [0u8; 32];
-    bytes[0..text.len()].copy_from_slice(text);
-    bytes
+    let text = str::from_utf8(bytes).unwrap();
+    ArrayString::from(text).unwrap()
 }
 
 // The label with these bytes, or what is wrong with them.
@@ -45,19 +46,17 @@ impl<'a> TryFrom<&'a [u8]> for Label {
 
     type Error = NameFault;
 
-    ghost try_from_gives = { λ text r. labelled r ≡ labelling text.now };
+    ghost try_from_gives = { λ bytes r. labelled r ≡ labelling bytes.now };
 
-    fn try_from(text: &'a [u8]) -> Result<Label, NameFault> {
-        let len = text.len();
-        if !(1..=32).contains(&len) {
+    fn try_from(bytes: &'a [u8]) -> Result<Label, NameFault> {
+        if !(1..=LONGEST).contains(&bytes.len()) {
             return Err(NameFault::LabelLength);
         }
-        if !all_graphic(text) {
+        if !all_graphic(bytes) {
             return Err(NameFault::LabelByte);
         }
         Ok(Label {
-            bytes: padded(text),
-            len,
+            text: inline(bytes),
         })
     }
 }
@@ -68,15 +67,16 @@ impl Label {
     pub fn as_bytes(&self) -> &[u8]
         ensures { result.now ≡ label_of self.now }
     {
-        &self.bytes[0..self.len]
+        self.text.as_str().as_bytes()
     }
 }
 
 impl fmt::Display for Label {
+    ghost use Rattle.vocabulary.specs.Entities.{label_of};
+
+    ghost output = { λ l. Some (label_of l) };
+
     fn fmt<W: fmt::Write>(&self, f: &mut fmt::Formatter<W>) -> fmt::Result {
-        for byte in self.as_bytes() {
-            f.write_char(char::from(*byte))?;
-        }
-        Ok(())
+        f.write_str(self.text.as_str())
     }
 }

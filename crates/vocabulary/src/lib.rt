@@ -13,4 +13,4 @@ pub use kind::Kind;
 pub use label::Label;
 pub use name::{Name, NameId};
 pub use refusal::{Layer, Reason, Refusal};
-pub use table::{NoSuchName, Vocabulary};
+pub use table::{MOST_NAMES, NoSuchName, Vocabulary};

@@ -1,6 +1,7 @@
 ghost use Rattle.std.specs.Prelude.{◌≡◌, ◌≤◌, true, [], map, length, IfOk, is_ok, nat_lt};
+ghost use Rattle.std.specs.List.{list_any};
 ghost use Rattle.std.specs.Option.{option_map};
-ghost use Rattle.vocabulary.specs.Entities.{entity, entity_at, distinct, held, kind_at, reseed};
+ghost use Rattle.vocabulary.specs.Entities.{entity, entity_at, distinct, held, kind_at, named, reseed};
 
 use crate::fault::NameFault;
 use crate::kind::Kind;
@@ -9,10 +10,13 @@ use crate::name::{Name, NameId};
 use bounded::Bounded;
 use std::alloc::{AllocError, Global};
 
+// How many names a book has room for.
+pub const MOST_NAMES: usize = 1024;
+
 // The names of a book by number: at most 1,024, no two of them with the same kind and label.
 #[derive(Drop)]
 pub struct Vocabulary {
-    names: Bounded<Name, 1024>,
+    names: Bounded<Name, MOST_NAMES>,
     // as the table's own invariant says; lemmas about names need it of the value
     ghost few: { length names ≤ 1024 },
     ghost apart: { distinct (map entity names) ≡ true },
@@ -21,6 +25,12 @@ pub struct Vocabulary {
 // No name has the number.
 #[derive(Clone, Copy, Debug, PartialEq, Eq, Hash)]
 pub struct NoSuchName;
+
+fn any_named(names: &[Name], kind: Kind, label: &[u8]) -> bool
+    ensures { result ≡ list_any (λ n. named kind label.now (entity n)) names.now }
+{
+    names.iter().any(|name| name.is(kind, label))
+}
 
 impl Vocabulary {
     ghost use Rattle.vocabulary.specs.Naming.{entities, naming, Gives};
@@ -68,13 +78,7 @@ impl Vocabulary {
     fn holds(&self, kind: Kind, label: &[u8]) -> bool
         ensures { result ≡ held kind label.now (entities self.now) }
     {
-        // `any`, with both the kind and the label in its closure, leaves a goal that no lemma closes
-        for name in self.names.as_slice() {
-            if name.is(kind, label) {
-                return true;
-            }
-        }
-        false
+        any_named(self.names.as_slice(), kind, label)
     }
 
     // Makes a name of a kind byte and a label; it is not seeded. Any byte may be passed, since refusing it is this call's

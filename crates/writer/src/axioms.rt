@@ -5,7 +5,7 @@ ghost use Rattle.terms.specs.Writing.{role_bytes, term_bytes, body_bytes};
 ghost use Rattle.writer.specs.Placing.{Writes};
 
 use crate::sink::{Cursor, Sink};
-use terms::{Axiom, Code, Direction, RoleItem, Term, TermId, Terms};
+use terms::{Axiom, Code, Direction, MOST_LEVELS, RoleItem, Term, TermId, Terms};
 
 fn put_role<S: Sink>(sink: &mut S, item: RoleItem)
     ensures { S.takes sink.old (role_bytes item) sink.new }
@@ -64,7 +64,7 @@ fn put_term<S: Sink>(sink: &mut S, terms: &Terms, id: TermId, levels: u8)
 fn put_whole<S: Sink>(sink: &mut S, terms: &Terms, id: TermId)
     ensures { S.takes sink.old (term_bytes (meaning (nodes_of terms.now) id)) sink.new }
 {
-    put_term(sink, terms, id, 24);
+    put_term(sink, terms, id, MOST_LEVELS);
 }
 
 // The body of an axiom.
@@ -99,7 +99,8 @@ pub fn put_axiom<S: Sink>(sink: &mut S, terms: &Terms, axiom: Axiom)
 }
 
 // The body of an axiom, from a place in a buffer on, as far as there is room. Answers the place after it, or None where
-// the room is short.
+// the room is short. It takes the buffer and the place, and no sink, since that what is written is read back is told of a
+// buffer.
 pub fn write_axiom(terms: &Terms, axiom: Axiom, out: &mut [u8], at: usize) -> Option<usize>
     ensures { Writes (rule (nodes_of terms.now) «axiom») out.old at result out.new }
 {

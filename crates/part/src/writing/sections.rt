@@ -6,6 +6,7 @@ ghost use Rattle.part.specs.Parts.{file_bytes, name_entry, seed_entry, seeds_fro
 
 use crate::writing::entries::{put_name, put_rule, put_seed};
 use book::Book;
+use extraction::Flags;
 use vocabulary::{NameId, Vocabulary};
 use writer::{Cursor, Length, Sink};
 
@@ -30,24 +31,23 @@ fn put_seeds<S: Sink>(sink: &mut S, names: &Vocabulary)
     }
 }
 
-// The part that the axioms of a book make whose flag is 1.
+// The part that the axioms of a book make whose flag is set.
 #[derive(Clone, Copy)]
 pub(crate) struct Part<'a> {
     pub(crate) book: &'a Book,
-    // a byte for each axiom, 1 or 0, since that is what marking writes
-    pub(crate) kept: &'a [u8; 1024],
+    pub(crate) kept: &'a Flags,
 }
 
 impl Part<'_> {
     ghost use Rattle.part.specs.Writing.{axioms_written, part_written};
 
-    // Puts the axioms whose flag is 1. A closure that is called for each of them and changes the sink would leave it open
-    // what the sink ends as.
+    // Puts the axioms whose flag is set. An extractor goes through its axioms in the same way: an iterator for both would be
+    // longer than the two loops, and a closure that changes the sink would leave it open what the sink ends as.
     fn put_axioms<S: Sink>(&self, sink: &mut S)
         ensures { S.takes sink.old (axioms_written self.now) sink.new }
     {
-        for (filed, flag) in self.book.axioms().iter().zip(self.kept) {
-            if *flag == 1 {
+        for (filed, is_kept) in self.book.axioms().iter().zip(self.kept) {
+            if *is_kept {
                 put_rule(sink, self.book.terms(), filed.axiom);
             }
         }

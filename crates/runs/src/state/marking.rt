@@ -7,8 +7,8 @@ use extraction::{Extractor, MarkFault, Marking, Stage, mark};
 use locality::LocalityTest;
 
 impl State {
-    // Marks the book through a pile. The answer is None where the book is a draft: that a book does not have the call is no
-    // refusal of it. The promise holds whichever calls the book came by.
+    // Marks the book through a pile. The answer is None where the book is a draft: marking is no call of a list, and has none
+    // of its faults. The promise holds whichever calls the book came by.
     pub fn mark<E: Extractor>(
         &self,
         pile: &E,

@@ -106,11 +106,6 @@ impl State {
     pub fn perform_all(self, calls: &[Call]) -> State
         ensures { standing result ≡ performed (standing self) (map step_of calls.now) }
     {
-        let mut state = self;
-        for call in calls {
-            let (next, _) = state.perform(call);
-            state = next;
-        }
-        state
+        calls.iter().fold(self, |state, call| state.perform(call).0)
     }
 }
