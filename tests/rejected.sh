@@ -1,7 +1,7 @@
 #!/bin/sh
 # Shows that the check rejects programs that use a draft or a frozen book as the other, by their types alone.
-# In a temporary copy of `book` and the crates below it, a small library that depends on `book` is accepted, and then each
-# wrong variant of it is refused, with the expected error at the expected line.
+# In a temporary copy of `extraction` and the crates below it, a small library that depends on `book` and `extraction` is
+# accepted, and then each wrong variant of it is refused, with the expected error at the expected line.
 # Usage: sh tests/rejected.sh
 root=$(CDPATH='' cd -- "$(dirname -- "$0")/.." && pwd) || exit 2
 work=$(mktemp -d) || exit 2
@@ -9,14 +9,16 @@ trap 'rm -rf "$work"' EXIT
 
 # What is proved already is taken over, so that only the small library is checked.
 mkdir -p "$work/crates/misuse/src" || exit 2
-for crate in bounded vocabulary terms codec book; do
+for crate in bounded vocabulary terms locality codec book extraction; do
     cp -R "$root/crates/$crate" "$work/crates" || exit 2
     grep "^$crate:" "$root/crates.txt" >>"$work/crates.txt" || exit 2
 done
-echo 'misuse: book' >>"$work/crates.txt"
+echo 'misuse: extraction book' >>"$work/crates.txt"
 
 cat >"$work/right.rt" <<'END'
 use book::Draft;
+use extraction::Whole;
+use extraction::mark;
 use std::alloc::AllocError;
 use std::alloc::Global;
 
@@ -25,6 +27,14 @@ pub fn reopened(heap: Global) -> Result<bool, AllocError> {
     let frozen = draft.freeze();
     let mut again = frozen.reopen();
     Ok(again.name(0, b"Relay").is_ok())
+}
+
+pub fn marked(heap: Global) -> Result<bool, AllocError> {
+    let draft = Draft::open(heap)?;
+    let settled = draft.freeze();
+    let mut axioms = [0; 4];
+    let mut names = [0; 4];
+    Ok(mark(&settled, &Whole, &mut axioms, &mut names).is_ok())
 }
 END
 
@@ -59,11 +69,12 @@ refused() { # WORDS COMMAND LINE ERROR
     count $? "$1: no error[$4] at line $3"
 }
 
-accepted 'naming after reopening'
-refused 'naming on a frozen book' 's/frozen\.reopen()/frozen/' 9 unknown-method
-refused 'filing on a frozen book' 's/frozen\.reopen()/frozen/; s/name(0, b"Relay")/file(19, b"\\x00\\x00")/' 9 unknown-method
-refused 'using a draft after freezing it' 's/let draft/let mut draft/; s/again\.name/draft.name/' 9 borrow-e0382
-refused 'reopening a draft' 's/frozen\.reopen()/draft.reopen()/; s/draft\.freeze()/()/' 8 unknown-method
+accepted 'naming after reopening, marking after freezing'
+refused 'naming on a frozen book' 's/frozen\.reopen()/frozen/' 11 unknown-method
+refused 'filing on a frozen book' 's/frozen\.reopen()/frozen/; s/name(0, b"Relay")/file(19, b"\\x00\\x00")/' 11 unknown-method
+refused 'using a draft after freezing it' '8,11s/let draft/let mut draft/; s/again\.name/draft.name/' 11 borrow-e0382
+refused 'reopening a draft' 's/frozen\.reopen()/draft.reopen()/; 9s/draft\.freeze()/()/' 10 unknown-method
+refused 'marking a draft' 's/let settled = draft\.freeze()/let settled = draft/' 19 mismatched-types
 
 echo "$good passed, $bad failed"
 [ "$bad" -eq 0 ]

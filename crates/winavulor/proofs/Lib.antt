@@ -1,0 +1,6 @@
+mod Digits
+mod Finding
+mod Leading
+mod Loaded
+mod Pairs
+mod Taking

@@ -1,5 +1,7 @@
--- Hexadecimal digits as ASCII.
-use Rattle.std.specs.Prelude.{ℕ, ◌+◌, ◌-◌, cond, Some, None, Option, nat_le}
+-- Bytes as hexadecimal digits in ASCII.
+use Rattle.std.specs.Prelude.{ℕ, ◌+◌, ◌-◌, ◌*◌, cond, List, [], ◌∷◌, codes, Some, None, Option, nat_le, bytes_eq, option_map}
+use Rattle.std.specs.Option.{option_and_then}
+use Rattle.hex.specs.Hex.{encode_lower}
 
 -- a byte from low to high stands for its distance from low, plus what low stands for
 abbrev pub from_range : ℕ → ℕ → ℕ → ℕ → Option ℕ → Option ℕ
@@ -8,3 +10,22 @@ from_range low high least d others = cond (nat_le low d) (cond (nat_le d high) (
 -- '0' to '9', 'a' to 'f' and 'A' to 'F'
 abbrev pub digit_of : ℕ → Option ℕ
 digit_of d = from_range 48 57 0 d (from_range 97 102 10 d (from_range 65 70 10 d None))
+
+-- the byte of two digits
+abbrev pub pair_value : ℕ → ℕ → Option ℕ
+pair_value high low = option_and_then (λ h. option_map (λ l. 16 * h + l) (digit_of low)) (digit_of high)
+
+-- the bytes of pairs of digits
+abbrev pub pairs_value : List ℕ → Option (List ℕ)
+pairs_value [] = Some []
+pairs_value (d ∷ []) = None
+pairs_value (high ∷ low ∷ ds) = option_and_then (λ b. option_map (λ bs. b ∷ bs) (pairs_value ds)) (pair_value high low)
+
+-- the bytes of a word; a dash stands for none
+abbrev pub word_value : List ℕ → Option (List ℕ)
+word_value w = cond (bytes_eq w (codes "-")) (Some []) (pairs_value w)
+
+-- and the other way round: two small digits for each byte, or a dash
+abbrev pub bytes_word : List ℕ → List ℕ
+bytes_word [] = codes "-"
+bytes_word (b ∷ bs) = encode_lower (b ∷ bs)

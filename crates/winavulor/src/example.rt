@@ -1,14 +1,25 @@
 // The example that is shown where no command is given: a book of a substation, and every call on it.
+ghost use Rattle.std.specs.Prelude.{◌≡◌, IfOk, map};
+ghost use Rattle.std.specs.Option.{option_map};
+ghost use Rattle.winavulor.specs.Shown.{refusal_of};
+ghost use Rattle.terms.specs.Codes.{kind_number};
+ghost use Rattle.vocabulary.specs.Kinds.{code_of};
+ghost use Rattle.runs.specs.Steps as steps;
+ghost use Rattle.runs.specs.Steps.{standing, step_of, performing, performed};
+
+use crate::cut::Module;
 use crate::failure::Failure;
 use crate::notation::Listing;
 use crate::told::Told;
 use book::AxiomId;
-use runs::{Answer, Call, CallFault, Outcome, State};
+use runs::{Answer, Call, CallFault, Outcome, Pile, State};
 use std::alloc::{AllocError, Global};
 use terms::AxiomKind;
 use vocabulary::{Kind, NameId};
 
 // A book file with 15 records: seven names, a seed and seven axioms.
+const RECORDS: usize = 15;
+
 const SUBSTATION: &[u8] = b"\
     \x06\x00\x01\x00\x00Relay\
     \x09\x00\x01\x00\x00Distance\
@@ -34,7 +45,9 @@ struct Step {
     call: Call,
 }
 
-fn name(heap: Global, words: &'static str, kind: Kind, label: &[u8]) -> Result<Step, AllocError> {
+fn name(heap: Global, words: &'static str, kind: Kind, label: &[u8]) -> Result<Step, AllocError>
+    ensures { IfOk result (λ s. step_of s.call ≡ steps.name (code_of kind) label.now) }
+{
     let kind = u8::from(kind);
     let label = Vec::from_slice(heap, label)?;
     Ok(Step {
@@ -43,12 +56,9 @@ fn name(heap: Global, words: &'static str, kind: Kind, label: &[u8]) -> Result<S
     })
 }
 
-fn file(
-    heap: Global,
-    words: &'static str,
-    kind: AxiomKind,
-    body: &[u8],
-) -> Result<Step, AllocError> {
+fn file(heap: Global, words: &'static str, kind: AxiomKind, body: &[u8]) -> Result<Step, AllocError>
+    ensures { IfOk result (λ s. step_of s.call ≡ steps.file (kind_number kind) body.now) }
+{
     let kind = u16::from(kind);
     let body = Vec::from_slice(heap, body)?;
     Ok(Step {
@@ -57,10 +67,12 @@ fn file(
     })
 }
 
-fn loading(heap: Global) -> Result<Step, AllocError> {
-    let file = Vec::from_slice(heap, SUBSTATION)?;
+fn load(heap: Global, words: &'static str, file: &[u8]) -> Result<Step, AllocError>
+    ensures { IfOk result (λ s. step_of s.call ≡ steps.load file.now) }
+{
+    let file = Vec::from_slice(heap, file)?;
     Ok(Step {
-        words: "load the book of a substation",
+        words,
         call: Call::Load { file },
     })
 }
@@ -124,7 +136,9 @@ fn changes(heap: Global) -> Result<Vec<Step>, AllocError> {
 }
 
 // What a refused call has to say beyond its numbers.
-fn refusal(outcome: Outcome) -> Option<Told> {
+fn refusal(outcome: Outcome) -> Option<Told>
+    ensures { option_map (λ told. told.0) result ≡ refusal_of outcome }
+{
     match outcome {
         Err(CallFault::Refused(refusal) | CallFault::LoadRefused(refusal, _)) => {
             Some(Told(refusal))
@@ -134,7 +148,9 @@ fn refusal(outcome: Outcome) -> Option<Told> {
 }
 
 // Makes the call of a step, and prints the step and its outcome.
-fn take(rt: &HostRuntime, state: State, step: Step) -> Result<State, Failure> {
+fn take(rt: &HostRuntime, state: State, step: Step) -> Result<State, Failure>
+    ensures { IfOk result (λ s. standing s ≡ (performing (standing state) (step_of step.call)).after) }
+{
     let Step { words, call } = step;
     let (state, outcome) = state.perform(&call);
     let answer = Answer(outcome);
@@ -145,7 +161,9 @@ fn take(rt: &HostRuntime, state: State, step: Step) -> Result<State, Failure> {
     Ok(state)
 }
 
-fn take_all(rt: &HostRuntime, state: State, steps: Vec<Step>) -> Result<State, Failure> {
+fn take_all(rt: &HostRuntime, state: State, steps: Vec<Step>) -> Result<State, Failure>
+    ensures { IfOk result (λ s. standing s ≡ performed (standing state) (map (λ step. step_of step.call) steps.items)) }
+{
     let mut state = state;
     for step in steps {
         state = take(rt, state, step)?;
@@ -159,13 +177,53 @@ fn list(rt: &HostRuntime, state: &State) -> Result<(), Failure> {
     Ok(())
 }
 
-// Loads the example, shows it, makes every call on it, and shows what came of it.
-pub(crate) fn show(rt: &HostRuntime) -> Result<(), Failure> {
-    let state = State::open(rt.alloc())?;
+// The calls of a cut for Relay, which the file seeds too; what is said of Q1 alone is laid aside.
+fn cut_calls(heap: Global) -> Result<Vec<Call>, AllocError> {
+    let file = Vec::from_slice(heap, SUBSTATION)?;
+    let calls = vec![in heap;
+        Call::Load { file },
+        Call::Seed(NameId(0)),
+        Call::LayAside(AxiomId(5)),
+        Call::Freeze,
+    ]?;
+    Ok(calls)
+}
+
+// Shows every call of a draft and of a frozen book.
+fn show_calls(rt: &HostRuntime) -> Result<(), Failure> {
+    let empty = State::open(rt.alloc())?;
     println!(rt; "open a draft: ok")?;
-    let opened = take(rt, state, loading(rt.alloc())?)?;
+    let opened = take(
+        rt,
+        empty,
+        load(rt.alloc(), "load the book of a substation", SUBSTATION)?,
+    )?;
     list(rt, &opened)?;
     println!(rt; "\nevery call, one after the other")?;
     let changed = take_all(rt, opened, changes(rt.alloc())?)?;
     list(rt, &changed)
+}
+
+// Cuts out the module for the signature, and loads its part again.
+fn show_cut(rt: &HostRuntime) -> Result<(), Failure> {
+    println!(rt;
+        "\nthe module for the seeded names, through the bottom test, with axiom 5 laid aside"
+    )?;
+    let calls = cut_calls(rt.alloc())?;
+    let opened = State::open(rt.alloc())?;
+    let module = Module::of(rt.alloc(), Pile::Bottom, opened, calls.as_slice())?;
+    module.report(rt, RECORDS)?;
+    let reload = load(
+        rt.alloc(),
+        "load the part into an empty book",
+        module.part(),
+    )?;
+    let again = take(rt, State::open(rt.alloc())?, reload)?;
+    list(rt, &again)
+}
+
+// Loads the example, shows it, makes every call on it, shows what came of it, and cuts out the module for its signature.
+pub(crate) fn show(rt: &HostRuntime) -> Result<(), Failure> {
+    show_calls(rt)?;
+    show_cut(rt)
 }

@@ -2,58 +2,52 @@
 use crate::command::{USAGE, UsageFault};
 use crate::script::ScriptFault;
 use crate::told::Told;
-use records::LoadFault;
+use extraction::MarkFault;
 use std::alloc::AllocError;
-use std::{fmt, io};
+use std::io;
+use thiserror::Error;
+use vocabulary::Refusal;
 
-#[derive(Debug, Drop)]
+#[derive(Debug, Drop, Error)]
 pub enum Failure {
     // the words are no command
+    #[error("{0}\n{USAGE}")]
     Usage(UsageFault),
-    // the file at this path cannot be read
-    Unreadable(String, io::Error),
-    // the book file at this path is refused
-    Refused(String, LoadFault),
+    #[error("{path} cannot be read: {error}")]
+    Unreadable {
+        path: String,
+        error: io::Error,
+    },
+    #[error("{path} cannot be written: {error}")]
+    Unwritable {
+        path: String,
+        error: io::Error,
+    },
+    #[error("{path} has other bytes than were written")]
+    Altered {
+        path: String,
+    },
+    // the book file at this path is refused behind so many records
+    #[error("{path} is refused at byte {place}\n{told}\nrecords taken before it: {taken}", place = .refusal.place, told = Told(*.refusal))]
+    Refused {
+        path: String,
+        refusal: Refusal,
+        taken: usize,
+    },
     // a line of the script is no call
-    Script(ScriptFault),
-    // the system refuses memory, the command's words or its output
-    System(io::Error),
-}
-
-impl From<ScriptFault> for Failure {
-    fn from(fault: ScriptFault) -> Failure {
-        Failure::Script(fault)
-    }
-}
-
-impl From<io::Error> for Failure {
-    fn from(error: io::Error) -> Failure {
-        Failure::System(error)
-    }
-}
-
-impl From<AllocError> for Failure {
-    fn from(error: AllocError) -> Failure {
-        Failure::System(io::Error::from(error))
-    }
-}
-
-impl fmt::Display for Failure {
-    fn fmt<W: fmt::Write>(&self, f: &mut fmt::Formatter<W>) -> fmt::Result {
-        match self {
-            Failure::Usage(fault) => write!(f, "{fault}\n{USAGE}"),
-            Failure::Unreadable(path, error) => write!(f, "{path} cannot be read: {error}"),
-            Failure::Refused(path, fault) => {
-                let refusal = fault.refusal();
-                let place = refusal.place;
-                let told = Told(refusal);
-                let taken = fault.taken();
-                writeln!(f, "{path} is refused at byte {place}")?;
-                writeln!(f, "{told}")?;
-                write!(f, "records taken before it: {taken}")
-            }
-            Failure::Script(fault) => write!(f, "{fault}"),
-            Failure::System(error) => write!(f, "{error}"),
-        }
-    }
+    #[error(transparent)]
+    Script(#[from] ScriptFault),
+    #[error("the book has no name '{0}'; a name is given as KIND:LABEL")]
+    NoSuchName(String),
+    #[error("marking is refused\n{told}", told = Told(.0.refusal()))]
+    NotMarked(#[from] MarkFault),
+    #[error("a draft cannot be marked")]
+    NotFrozen,
+    #[error("no memory is left")]
+    Memory(#[from(alloc)] AllocError),
+    #[error("the words of the command cannot be read: {0}")]
+    Words(io::Error),
+    // the system refuses the command's output
+    #[error(transparent)]
+    System(#[from] io::Error),
 }

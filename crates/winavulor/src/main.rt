@@ -1,45 +1,34 @@
-// The command line: it shows an example, checks and shows book files, and performs scripts of calls.
+// The command line: it shows an example, checks and shows book files, cuts modules out of them, and performs scripts of
+// calls.
 #![tactic(auto)]
 
+mod bytes;
 mod command;
+mod cut;
 mod example;
 mod failure;
-mod hex;
+mod files;
 mod line;
+mod marks;
 mod notation;
+mod order;
+mod piles;
+mod report;
 mod script;
 mod tally;
 mod told;
 mod verdicts;
 
-use book::Draft;
 use command::{Command, USAGE, UsageFault};
 use extraction::seeded_names;
 use failure::Failure;
+use files::{loaded, read};
 use notation::Listing;
-use records::load;
 use script::perform_lines;
 use std::process::ExitCode;
-use std::{env, fs, io};
+use std::{env, io};
 use tally::Tally;
 use verdicts::Verdicts;
-
-fn read(rt: &HostRuntime, path: &str) -> Result<Vec<u8>, Failure> {
-    match fs::read(rt, path) {
-        Ok(bytes) => Ok(bytes),
-        Err(error) => Err(Failure::Unreadable(String::from_str(rt.alloc(), path)?, error)),
-    }
-}
-
-// The book of a file, and how many records the file has.
-fn loaded(rt: &HostRuntime, path: &str) -> Result<(Draft, usize), Failure> {
-    let bytes = read(rt, path)?;
-    let mut draft = Draft::open(rt.alloc())?;
-    match load(&mut draft, bytes.as_slice()) {
-        Ok(taken) => Ok((draft, taken)),
-        Err(fault) => Err(Failure::Refused(String::from_str(rt.alloc(), path)?, fault)),
-    }
-}
 
 fn check(rt: &HostRuntime, path: &str) -> Result<(), Failure> {
     let (draft, taken) = loaded(rt, path)?;
@@ -77,11 +66,13 @@ fn obey(rt: &HostRuntime, command: Command<'_>) -> Result<(), Failure> {
         Command::Check(path) => check(rt, path),
         Command::Show(path) => show(rt, path),
         Command::Run(path) => run(rt, path),
+        Command::Cut(order) => order::carry_out(rt, order),
     }
 }
 
 fn answer(rt: &HostRuntime) -> Result<(), Failure> {
-    let words: Vec<String> = env::args(rt)?.skip(1).collect(rt.alloc())?;
+    let words = env::args(rt).map_err(Failure::Words)?;
+    let words: Vec<String> = words.skip(1).collect(rt.alloc())?;
     match Command::of(words.as_slice()) {
         Some(command) => obey(rt, command),
         None => Err(Failure::Usage(UsageFault::of(rt.alloc(), words.as_slice())?)),

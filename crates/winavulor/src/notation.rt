@@ -1,12 +1,12 @@
 // Names, terms and axioms in the notation of description logics.
+ghost use Rattle.std.specs.Prelude.{◌≡◌};
+ghost use Rattle.winavulor.specs.Shown.{ends_open};
+
 use book::Book;
 use std::fmt;
 use std::fmt::Formatter;
-use terms::{Axiom, RoleItem, Term, TermId};
+use terms::{Axiom, MOST_LEVELS, RoleItem, Term, TermId};
 use vocabulary::{Name, NameId};
-
-// No term of a book has more levels.
-const LEVELS: u8 = 24;
 
 // A part of a book as it is shown, which takes the book's names and terms.
 #[derive(Clone, Copy)]
@@ -86,12 +86,14 @@ fn write_term<W: fmt::Write>(
 
 impl fmt::Display for Shown<'_, TermId> {
     fn fmt<W: fmt::Write>(&self, f: &mut Formatter<W>) -> fmt::Result {
-        write_term(f, self.0, self.1, LEVELS)
+        write_term(f, self.0, self.1, MOST_LEVELS)
     }
 }
 
 // Whether a term needs parentheses where an argument follows it.
-fn is_open(term: Term) -> bool {
+fn is_open(term: Term) -> bool
+    ensures { result ≡ ends_open term }
+{
     matches!(
         term,
         Term::Not(_) | Term::Exists(_, _) | Term::AtLeast(_, _, _)
@@ -153,6 +155,18 @@ impl fmt::Display for Shown<'_, Axiom> {
                 write!(f, "{role}({from}, {to})")
             }
         }
+    }
+}
+
+// A name with its number, indented.
+#[derive(Clone, Copy)]
+pub struct NameLine<'a>(pub usize, pub &'a Name);
+
+impl fmt::Display for NameLine<'_> {
+    fn fmt<W: fmt::Write>(&self, f: &mut Formatter<W>) -> fmt::Result {
+        let number = self.0;
+        let Name { kind, label, .. } = *self.1;
+        write!(f, "  {number}: {kind} {label}")
     }
 }
 

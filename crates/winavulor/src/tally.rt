@@ -1,4 +1,7 @@
 // How much a book holds.
+ghost use Rattle.std.specs.Prelude.{◌≡◌, count_by, length};
+ghost use Rattle.vocabulary.specs.Kinds.{same_kind};
+
 use book::Book;
 use std::fmt;
 use vocabulary::{Kind, Name};
@@ -13,7 +16,9 @@ pub struct Tally {
 }
 
 // How many names are of a kind.
-fn count_of(names: &[Name], kind: Kind) -> usize {
+fn count_of(names: &[Name], kind: Kind) -> usize
+    ensures { result ≡ count_by (λ n. same_kind n.kind kind) names.now }
+{
     names.iter().filter(|name| name.kind == kind).count()
 }
 

@@ -1,4 +1,7 @@
 // Refusals in words.
+ghost use Rattle.std.specs.Prelude.{Some};
+ghost use Rattle.winavulor.specs.Shown.{told_text};
+
 use std::fmt;
 use vocabulary::Refusal;
 
@@ -7,6 +10,8 @@ use vocabulary::Refusal;
 pub struct Told(pub Refusal);
 
 impl fmt::Display for Told {
+    ghost output = { λ t. Some (told_text t.0) };
+
     fn fmt<W: fmt::Write>(&self, f: &mut fmt::Formatter<W>) -> fmt::Result {
         let Refusal {
             reason,

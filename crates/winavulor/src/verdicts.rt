@@ -1,9 +1,13 @@
 // Which axioms of a book are local against its signature.
+ghost use Rattle.std.specs.Prelude.{◌≡◌, codes, if◌then◌else◌};
+
 use book::Book;
 use locality::{Filling, LocalityTest};
 use std::fmt;
 
-fn word(local: bool) -> &'static str {
+fn word(local: bool) -> &'static str
+    ensures { result.now ≡ (if local then codes "local" else codes "not local") }
+{
     if local { "local" } else { "not local" }
 }
 

@@ -1,10 +1,10 @@
 // Bytes written as pairs of hexadecimal digits. They are read here and not by the library, since which fault of a word is
 // told first is part of what a script is answered.
-ghost use Rattle.std.specs.Prelude.{◌≡◌, ◌<◌, IfSome};
-ghost use Rattle.winavulor.specs.Hex.{digit_of};
+ghost use Rattle.std.specs.Prelude.{◌≡◌, ◌<◌, IfOk, IfSome, Some, string_bytes};
+ghost use Rattle.winavulor.specs.Hex.{bytes_word, digit_of, pair_value, word_value};
 
 use crate::line::LineFault;
-use std::alloc::Global;
+use std::alloc::{AllocError, Global};
 
 // What a hexadecimal digit, small or capital, stands for.
 fn digit_value(digit: u8) -> Option<u8>
@@ -19,14 +19,18 @@ fn digit_value(digit: u8) -> Option<u8>
     }
 }
 
-fn byte_of(high: u8, low: u8) -> Option<u8> {
+fn byte_of(high: u8, low: u8) -> Option<u8>
+    ensures { result ≡ pair_value high low }
+{
     let high = digit_value(high)?;
     let low = digit_value(low)?;
     Some(16 * high + low)
 }
 
 // The bytes that a word stands for; a dash stands for none.
-pub(crate) fn bytes_of(heap: Global, word: &str) -> Result<Vec<u8>, LineFault> {
+pub(crate) fn bytes_of(heap: Global, word: &str) -> Result<Vec<u8>, LineFault>
+    ensures { IfOk result (λ v. word_value word.now ≡ Some v.items) }
+{
     let mut bytes = Vec::new(heap);
     if word == "-" {
         return Ok(bytes);
@@ -39,4 +43,15 @@ pub(crate) fn bytes_of(heap: Global, word: &str) -> Result<Vec<u8>, LineFault> {
         bytes.push(byte)?;
     }
     Ok(bytes)
+}
+
+// Bytes, written as a script has them.
+pub(crate) fn word_of(heap: Global, bytes: &[u8]) -> Result<String, AllocError>
+    ensures { IfOk result (λ w. string_bytes w ≡ bytes_word bytes.now) }
+{
+    if bytes.is_empty() {
+        String::from_str(heap, "-")
+    } else {
+        hex::encode(heap, bytes)
+    }
 }
