@@ -11,17 +11,7 @@ work=$(mktemp -d) || exit 2
 full=$work.full
 trap 'rm -rf "$work" "$full"' EXIT
 
-good=0
-bad=0
-
-count() { # STATUS WORDS
-    if [ "$1" -eq 0 ]; then
-        good=$((good + 1))
-    else
-        bad=$((bad + 1))
-        echo "FAIL $2"
-    fi
-}
+. ./counting.sh
 
 cut() { # WORDS OF THE COMMAND
     "$program" cut "$@" >"$work/stdout" 2>"$work/stderr"

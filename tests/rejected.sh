@@ -38,17 +38,10 @@ pub fn marked(heap: Global) -> Result<bool, AllocError> {
 }
 END
 
-good=0
-bad=0
+. "$root/tests/counting.sh"
 
-count() { # STATUS WORDS
-    if [ "$1" -eq 0 ]; then
-        good=$((good + 1))
-    else
-        bad=$((bad + 1))
-        echo "FAIL $2"
-        grep -v ": proved" "$work/said" | head -n 8
-    fi
+detail() {
+    grep -v ": proved" "$work/said" | head -n 8
 }
 
 # Checks the library as it is now; what the check says is kept.

@@ -12,17 +12,10 @@ cd "$(dirname "$0")" || exit 2
 work=$(mktemp -d) || exit 2
 trap 'rm -rf "$work"' EXIT
 
-good=0
-bad=0
+. ./counting.sh
 
-count() { # STATUS WORDS
-    if [ "$1" -eq 0 ]; then
-        good=$((good + 1))
-    else
-        bad=$((bad + 1))
-        echo "FAIL $2"
-        head -n 4 "$work/stderr"
-    fi
+detail() {
+    head -n 4 "$work/stderr"
 }
 
 # The program with these words; its status is kept.
