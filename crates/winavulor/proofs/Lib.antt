@@ -1,6 +1,5 @@
-mod Digits
 mod Finding
-mod Leading
+mod Seeding
 mod Loaded
-mod Pairs
 mod Taking
+mod Options

@@ -12,7 +12,7 @@ use Rattle.runs.specs.Promise.{follows}
 use Rattle.runs.specs.Steps.{Step, Standing, load, standing, performed, drawn}
 use Rattle.runs.proofs.Told.{book_told}
 use Rattle.winavulor.specs.Modules.{CutOut, Module}
-use Rattle.winavulor.specs.Words.{CutCalls}
+use Rattle.winavulor.specs.Words.{cut_calls}
 
 -- a draft that holds what loading leaves stands as after the one call
 stands : (b : Contents) (bytes : List ℕ) → b ≡ (loading empty bytes).state → ◌≡◌ {A = Standing} (record { frozen = false; book = b }) (drawn (load bytes ∷ []))
@@ -23,11 +23,11 @@ module _ (bytes : List ℕ) (records : ℕ) (words : List (List ℕ)) (stack : L
   leads : b ≡ (loading empty bytes).state → standing state ≡ performed (record { frozen = false; book = b }) calls → standing state ≡ follows (load bytes ∷ calls)
   leads e so = so ∙ (ap (λ s. performed s calls) (stands b bytes e) ∙ book_told (load bytes ∷ calls))
 
-  pub cut_out : b ≡ (loading empty bytes).state → (loading empty bytes).answer ≡ Ok records → CutCalls b.names words calls → Cuts (record { frozen = false; book = b }) calls (pile_kept stack) (pile_repair stack) (pile_rounds stack) (PileLaws stack) (record { axioms = replicate 1024 0; names = replicate 1024 0 }) m.axioms m.names (record { state = state; marking = Some (Ok m.marking) }) → m.part ≡ part_bytes (standing state).book (pile_kept stack (standing state).book) → CutOut bytes records words stack m
+  pub cut_out : b ≡ (loading empty bytes).state → (loading empty bytes).answer ≡ Ok records → cut_calls b.names words ≡ Ok calls → Cuts (record { frozen = false; book = b }) calls (pile_kept stack) (pile_repair stack) (pile_rounds stack) (PileLaws stack) (record { axioms = replicate 1024 0; names = replicate 1024 0 }) m.axioms m.names (record { state = state; marking = Some (Ok m.marking) }) → m.part ≡ part_bytes (standing state).book (pile_kept stack (standing state).book) → CutOut bytes records words stack m
   cut_out e taken seeds cuts part = record {
     calls = calls;
     taken = taken;
-    seeds = subst (λ x. CutCalls x.names words calls) e seeds;
+    seeds = subst (λ x. cut_calls x.names words ≡ Ok calls) e seeds;
     promise = cuts.promise (load bytes ∷ []) (stands b bytes e);
     part = part ∙ ap (λ s. part_bytes s.book (pile_kept stack s.book)) (leads e cuts.state);
   }

@@ -1,10 +1,12 @@
 // The words of the command line.
-ghost use Rattle.std.specs.Prelude.{◌≡◌, ◌↔◌, IsSome, Contains, codes, nat_eq, string_bytes};
-ghost use Rattle.std.specs.List.{list_any, starts_with};
-ghost use Rattle.winavulor.specs.Words.{file_words, help_words};
+ghost use Rattle.std.specs.Prelude.{◌≡◌, IfOk, bytes_eq, map, string_bytes};
+ghost use Rattle.std.specs.List.{list_any};
+ghost use Rattle.std.specs.Option.{option_map};
+ghost use Rattle.winavulor.specs.Faults.{fault_of, no_pile, usage_fault, verbs};
+ghost use Rattle.winavulor.specs.Options.{is_option};
 
-use crate::piles::pile_of;
 use runs::Pile;
+use scripts::pile_of;
 use std::alloc::{AllocError, Global};
 use thiserror::Error;
 
@@ -39,41 +41,64 @@ pub enum Command<'a> {
     Cut(Order<'a>),
 }
 
-// Whether a word is an option, which no file and no name is.
+// Whether a word is an option, which no file and no name of a cut is.
 fn is_option(word: &str) -> bool
-    ensures { result ≡ starts_with nat_eq word.now (codes "--") }
+    ensures { result ≡ is_option word.now }
 {
     word.starts_with("--")
 }
 
 fn has_option(words: &[String]) -> bool
-    ensures { result ≡ list_any (λ w. starts_with nat_eq (string_bytes w) (codes "--")) words.now }
+    ensures { result ≡ list_any (λ w. is_option (string_bytes w)) words.now }
 {
     words.iter().any(|word| is_option(word.as_str()))
 }
 
 impl<'a> Command<'a> {
+    ghost use Rattle.winavulor.specs.Commands.{cut_task, file_task, lone_task, plain_cut, task, task_of};
+
     // The command of the words after the program's own name, if they are one.
-    pub(crate) fn of(words: &'a [String]) -> Option<Command<'a>> {
+    pub(crate) fn of(words: &'a [String]) -> Option<Command<'a>>
+        ensures { option_map task_of result ≡ task (map string_bytes words.now) }
+    {
         match words {
             [] => Some(Command::Example),
             [verb] => Command::alone(verb.as_str()),
+            [verb, path] => Command::on_file(verb.as_str(), path.as_str()),
             [verb, book, part, rest @ ..] if verb.as_str() == "cut" => {
                 Command::cut(book.as_str(), part.as_str(), rest)
             }
-            [verb, path] => Command::on_file(verb.as_str(), path.as_str()),
             _ => None,
         }
     }
 
     // A cut, from the words after the two files.
-    fn cut(book: &'a str, part: &'a str, words: &'a [String]) -> Option<Command<'a>> {
-        let (pile, names) = match words {
-            [option, pile, names @ ..] if option.as_str() == "--pile" => {
-                (pile_of(pile.as_str())?, names)
+    #[tactic(auto, using(crate::proofs::Options::no_pile))]
+    fn cut(book: &'a str, part: &'a str, words: &'a [String]) -> Option<Command<'a>>
+        ensures { option_map task_of result ≡ cut_task book.now part.now (map string_bytes words.now) }
+    {
+        match words {
+            [option, pile, names @ ..] => {
+                if option.as_str() == "--pile" {
+                    Command::plain_cut(book, part, pile_of(pile.as_str())?, names)
+                } else {
+                    Command::plain_cut(book, part, Pile::Bottom, words)
+                }
             }
-            _ => (Pile::Bottom, words),
-        };
+            [_] | [] => Command::plain_cut(book, part, Pile::Bottom, words),
+        }
+    }
+
+    // A cut through a pile; no other word of it is an option.
+    #[tactic(auto, using(crate::proofs::Options::any_mapped))]
+    fn plain_cut(
+        book: &'a str,
+        part: &'a str,
+        pile: Pile,
+        names: &'a [String],
+    ) -> Option<Command<'a>>
+        ensures { option_map task_of result ≡ plain_cut book.now part.now pile (map string_bytes names.now) }
+    {
         if is_option(book) || is_option(part) || has_option(names) {
             return None;
         }
@@ -86,7 +111,7 @@ impl<'a> Command<'a> {
     }
 
     fn alone(verb: &str) -> Option<Command<'a>>
-        ensures { IsSome result ↔ Contains help_words verb.now }
+        ensures { option_map task_of result ≡ lone_task verb.now }
     {
         match verb {
             "help" | "--help" | "-h" => Some(Command::Help),
@@ -95,7 +120,7 @@ impl<'a> Command<'a> {
     }
 
     fn on_file(verb: &str, path: &'a str) -> Option<Command<'a>>
-        ensures { IsSome result ↔ Contains file_words verb.now }
+        ensures { option_map task_of result ≡ file_task verb.now path.now }
     {
         match verb {
             "check" => Some(Command::Check(path)),
@@ -118,7 +143,9 @@ pub enum UsageFault {
     UnknownPile(String),
 }
 
-fn is_known(verb: &str) -> bool {
+fn is_known(verb: &str) -> bool
+    ensures { result ≡ list_any (bytes_eq verb.now) verbs }
+{
     matches!(
         verb,
         "check" | "show" | "cut" | "run" | "help" | "--help" | "-h"
@@ -126,7 +153,9 @@ fn is_known(verb: &str) -> bool {
 }
 
 // The word for a pile that a cut is given, where it names none.
-fn unknown_pile(words: &[String]) -> Option<&str> {
+fn unknown_pile(words: &[String]) -> Option<&str>
+    ensures { option_map (λ w. w.now) result ≡ no_pile (map string_bytes words.now) }
+{
     match words {
         [verb, _, _, option, pile, ..] if verb.as_str() == "cut" && option.as_str() == "--pile" => {
             pile_of(pile.as_str()).is_none().then_some(pile.as_str())
@@ -137,19 +166,16 @@ fn unknown_pile(words: &[String]) -> Option<&str> {
 
 impl UsageFault {
     // What is wrong with words that are no command.
-    pub(crate) fn of(heap: Global, words: &[String]) -> Result<UsageFault, AllocError> {
+    pub(crate) fn of(heap: Global, words: &[String]) -> Result<UsageFault, AllocError>
+        ensures { IfOk result (λ f. fault_of f ≡ usage_fault (map string_bytes words.now)) }
+    {
         if let Some(pile) = unknown_pile(words) {
             return Ok(UsageFault::UnknownPile(String::from_str(heap, pile)?));
         }
-        let verb = match words {
-            [verb, ..] => verb.as_str(),
-            [] => "",
-        };
-        let word = String::from_str(heap, verb)?;
-        if is_known(verb) {
-            Ok(UsageFault::WrongWords(word))
-        } else {
-            Ok(UsageFault::UnknownCommand(word))
+        match words {
+            [verb, ..] if is_known(verb.as_str()) => Ok(UsageFault::WrongWords(verb.clone()?)),
+            [verb, ..] => Ok(UsageFault::UnknownCommand(verb.clone()?)),
+            [] => Ok(UsageFault::UnknownCommand(String::new(heap))),
         }
     }
 }

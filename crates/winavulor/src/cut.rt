@@ -1,5 +1,6 @@
 // Cutting: from a book and the names in use to the part of the book for them.
-ghost use Rattle.std.specs.Prelude.{◌≡◌, IfOk, Some, Ok, map, replicate};
+ghost use Rattle.std.specs.Prelude.{◌≡◌, IfOk, Some, Ok, length, map, replicate};
+ghost use Rattle.notation.specs.Reports.{summary_of};
 ghost use Rattle.extraction.specs.Piles.{pile_kept, pile_repair, pile_rounds, PileLaws};
 ghost use Rattle.part.specs.Parts.{part_bytes};
 ghost use Rattle.runs.specs.Cutting.{Cuts};
@@ -7,9 +8,9 @@ ghost use Rattle.runs.specs.Stacks.{stack_of};
 ghost use Rattle.runs.specs.Steps.{standing, step_of};
 
 use crate::failure::Failure;
-use crate::report::Report;
 use book::MOST_AXIOMS;
 use extraction::Marking;
+use notation::Report;
 use runs::{Call, Cut, Pile, State};
 use std::alloc::Global;
 use vocabulary::MOST_NAMES;
@@ -72,17 +73,17 @@ impl Module {
         self.part.as_slice()
     }
 
-    // Tells what is kept of a book that was read from so many records, and how long the part is.
-    pub(crate) fn report(&self, rt: &HostRuntime, records: usize) -> Result<(), Failure> {
-        let report = Report {
+    // What is kept of a book that was read from so many records, and how long the part is.
+    pub(crate) fn report(&self, records: usize) -> Report<'_>
+        ensures { summary_of result ≡ record { book = (standing self.now.state).book; records = records; axioms = self.now.axioms; names = self.now.names; marking = self.now.marking; bytes = length self.now.part.items } }
+    {
+        Report {
             book: self.state.book(),
             records,
             axioms: &self.axioms,
             names: &self.names,
             marking: self.marking,
             bytes: self.part.len(),
-        };
-        rt.print(format!(in rt.alloc(); "{report}")?)?;
-        Ok(())
+        }
     }
 }

@@ -9,9 +9,8 @@ ghost use Rattle.runs.specs.Steps.{standing, step_of, performing, performed};
 
 use crate::cut::Module;
 use crate::failure::Failure;
-use crate::notation::Listing;
-use crate::told::Told;
 use book::AxiomId;
+use notation::{Listing, Told};
 use runs::{Answer, Call, CallFault, Outcome, Pile, State};
 use std::alloc::{AllocError, Global};
 use terms::AxiomKind;
@@ -212,7 +211,8 @@ fn show_cut(rt: &HostRuntime) -> Result<(), Failure> {
     let calls = cut_calls(rt.alloc())?;
     let opened = State::open(rt.alloc())?;
     let module = Module::of(rt.alloc(), Pile::Bottom, opened, calls.as_slice())?;
-    module.report(rt, RECORDS)?;
+    let report = module.report(RECORDS);
+    rt.print(format!(in rt.alloc(); "{report}")?)?;
     let reload = load(
         rt.alloc(),
         "load the part into an empty book",

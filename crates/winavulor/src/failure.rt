@@ -1,9 +1,12 @@
 // Why a command ends without having done its work.
+ghost use Rattle.std.specs.Prelude.{◌≡◌};
+ghost use Rattle.winavulor.specs.declared.failure.Failure.TheVariants.{Memory};
+
 use crate::command::{USAGE, UsageFault};
-use crate::script::ScriptFault;
-use crate::told::Told;
 use extraction::MarkFault;
-use std::alloc::AllocError;
+use notation::Told;
+use scripts::ScriptFault;
+use std::alloc::{AllocError, AllocFailed};
 use std::io;
 use thiserror::Error;
 use vocabulary::Refusal;
@@ -44,10 +47,26 @@ pub enum Failure {
     #[error("a draft cannot be marked")]
     NotFrozen,
     #[error("no memory is left")]
-    Memory(#[from(alloc)] AllocError),
+    Memory,
     #[error("the words of the command cannot be read: {0}")]
     Words(io::Error),
     // the system refuses the command's output
     #[error(transparent)]
     System(#[from] io::Error),
+}
+
+impl From<AllocError> for Failure {
+    ghost from_gives = { λ _ f. f ≡ Memory };
+
+    fn from(_: AllocError) -> Failure {
+        Failure::Memory
+    }
+}
+
+impl<T: Drop> From<AllocFailed<T>> for Failure {
+    ghost from_gives = { λ _ f. f ≡ Memory };
+
+    fn from(_: AllocFailed<T>) -> Failure {
+        Failure::Memory
+    }
 }

@@ -2,33 +2,20 @@
 // calls.
 #![tactic(auto)]
 
-mod bytes;
 mod command;
 mod cut;
 mod example;
 mod failure;
 mod files;
-mod line;
-mod marks;
-mod notation;
 mod order;
-mod piles;
-mod report;
-mod script;
-mod tally;
-mod told;
-mod verdicts;
 
 use command::{Command, USAGE, UsageFault};
-use extraction::seeded_names;
 use failure::Failure;
 use files::{loaded, read};
-use notation::Listing;
-use script::perform_lines;
+use notation::{Listing, Tally, Verdicts};
+use scripts::perform_lines;
 use std::process::ExitCode;
 use std::{env, io};
-use tally::Tally;
-use verdicts::Verdicts;
 
 fn check(rt: &HostRuntime, path: &str) -> Result<(), Failure> {
     let (draft, taken) = loaded(rt, path)?;
@@ -41,10 +28,9 @@ fn check(rt: &HostRuntime, path: &str) -> Result<(), Failure> {
 fn show(rt: &HostRuntime, path: &str) -> Result<(), Failure> {
     let (draft, _) = loaded(rt, path)?;
     let book = draft.book();
-    let listed = seeded_names(book);
     rt.print(format!(in rt.alloc(); "{}", Listing(book))?)?;
     rt.println("locality against the signature:")?;
-    rt.print(format!(in rt.alloc(); "{}", Verdicts(book, &listed))?)?;
+    rt.print(format!(in rt.alloc(); "{}", Verdicts::of(book))?)?;
     Ok(())
 }
 

@@ -1,13 +1,15 @@
 // What the words of a cut order: a part of a book file, for the names in use, in a new file.
-ghost use Rattle.std.specs.Prelude.{◌≡◌, ◌≢◌, IfOk, IfSome, IfNone, IsSomeAnd, map, position, string_bytes};
+ghost use Rattle.std.specs.Prelude.{◌≡◌, ◌≢◌, IfOk, IfSome, IfNone, map, position, string_bytes};
 ghost use Rattle.vocabulary.specs.declared.kind.Kind.{Kind};
-ghost use Rattle.vocabulary.specs.Entities.{entity, entity_at, named};
+ghost use Rattle.std.specs.Option.{option_map};
+ghost use Rattle.vocabulary.specs.Entities.{entity, named};
 ghost use Rattle.vocabulary.specs.Kinds.{kind_text};
 ghost use Rattle.vocabulary.specs.Naming.{entities};
 ghost use Rattle.runs.specs.Stacks.{stack_of};
 ghost use Rattle.runs.specs.Steps.{step_of};
 ghost use Rattle.winavulor.specs.Modules.{CutOut};
-ghost use Rattle.winavulor.specs.Words.{CutCalls, name_word};
+ghost use Rattle.winavulor.specs.Readings.{AnswersInRoom};
+ghost use Rattle.winavulor.specs.Words.{cut_calls, name_of_word};
 
 use crate::command::Order;
 use crate::cut::Module;
@@ -40,7 +42,7 @@ fn number_of(names: &[Name], kind: Kind, label: &[u8]) -> Option<usize>
 
 // The name of a book that a word KIND:LABEL stands for.
 fn find(book: &Book, word: &str) -> Option<NameId>
-    ensures { IfSome result (λ id. IsSomeAnd (entity_at (entities book.now.names) id.0) (λ e. word.now ≡ name_word e)) }
+    ensures { option_map (λ id. id.0) result ≡ name_of_word (entities book.now.names) word.now }
 {
     let (first, label) = word.split_once(':')?;
     let kind = kind_of(first)?;
@@ -51,7 +53,7 @@ fn find(book: &Book, word: &str) -> Option<NameId>
 
 // The calls of a cut: the names in use are seeded beside the file's own seeds, and the book is frozen.
 fn calls(heap: Global, book: &Book, words: &[String]) -> Result<Vec<Call>, Failure>
-    ensures { IfOk result (λ v. CutCalls (entities book.now.names) (map string_bytes words.now) (map step_of v.items)) }
+    ensures { AnswersInRoom (λ v. map step_of v.items) result (cut_calls (entities book.now.names) (map string_bytes words.now)) }
 {
     let mut calls = Vec::new(heap);
     for word in words {
@@ -90,7 +92,8 @@ fn confirm(rt: &HostRuntime, module: &Module, path: &str, records: usize) -> Res
         });
     }
     let (_, again) = drafted(rt, path, bytes.as_slice())?;
-    module.report(rt, records)?;
+    let report = module.report(records);
+    rt.print(format!(in rt.alloc(); "{report}")?)?;
     println!(rt; "records loaded again: {again}")?;
     Ok(())
 }

@@ -1,8 +1,9 @@
-use Rattle.std.proofs.Common.{List, ◌++◌, map, drop, string_bytes}
+use Rattle.std.proofs.Common.{◌≡◌, map, drop, string_bytes}
 use Rattle.vocabulary.specs.Naming.{entities}
-use Rattle.runs.specs.Steps.{Step, step_of}
-use Rattle.winavulor.specs.Words.{CutCalls}
+use Rattle.runs.specs.Steps.{step_of}
+use Rattle.winavulor.specs.Words.{cut_calls}
+use Rattle.winavulor.proofs.Seeding.{ahead}
 use Rattle.winavulor.proofs.order.calls.Given as goal
 
 abbrev pub invariant-loop-word : goal.invariant-loop-word
-invariant-loop-word l = (rest : List Step) → CutCalls (entities l.book.names) (map string_bytes (drop l.word-index l.words)) rest → CutCalls (entities l.book.names) (map string_bytes l.words) (map step_of l.calls.items ++ rest)
+invariant-loop-word l = cut_calls (entities l.book.names) (map string_bytes l.words) ≡ ahead (map step_of l.calls.items) (cut_calls (entities l.book.names) (map string_bytes (drop l.word-index l.words)))

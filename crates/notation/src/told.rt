@@ -1,0 +1,28 @@
+// Refusals in words.
+ghost use Rattle.std.specs.Prelude.{Some};
+ghost use Rattle.notation.specs.Refusals.{told_text};
+
+use std::fmt;
+use vocabulary::Refusal;
+
+// A refusal as a line for a reader.
+#[derive(Clone, Copy, Debug)]
+pub struct Told(pub Refusal);
+
+impl fmt::Display for Told {
+    ghost output = { λ t. Some (told_text t.0) };
+
+    fn fmt<W: fmt::Write>(&self, f: &mut fmt::Formatter<W>) -> fmt::Result {
+        let Refusal {
+            reason,
+            layer,
+            place,
+        } = self.0;
+        let number = u8::from(reason);
+        let digit = u8::from(layer);
+        write!(
+            f,
+            "number {number}, layer {digit} ({layer}), place {place}: {reason}"
+        )
+    }
+}

@@ -1,0 +1,5 @@
+mod Attempted
+mod Digits
+mod Pairs
+mod Performed
+mod Reading

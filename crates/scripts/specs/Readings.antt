@@ -1,0 +1,30 @@
+-- What a reader of a line's words answers.
+use Rattle.std.specs.Prelude.{◌≡◌, ℕ, List, Ok, Err, Result, map}
+use Rattle.std.specs.Bool.{⊤}
+use Rattle.std.specs.Slice.Iter.{iter_rest}
+use Rattle.scripts.specs.declared.halt.Halt.{Halt}
+use Rattle.scripts.specs.declared.halt.Halt.TheVariants.{NoCall, Memory}
+use Rattle.scripts.specs.declared.halt.LineFault.{LineFault}
+use Rattle.scripts.specs.declared.words.Words.{Words}
+use Rattle.scripts.specs.Lines.{Taken, taken, stopped}
+
+-- the words that have not been read
+abbrev pub left : Words → List (List ℕ)
+left w = map (λ x. x.now) (iter_rest w.rest)
+
+-- r is what this reading gives, and w has the words behind it
+abbrev pub Reads : {A B : Type 0} → (A → B) → Result A LineFault → Words → Taken B → Type 0
+Reads value (Ok x) w t = t ≡ taken (value x) (left w)
+Reads value (Err f) w t = t ≡ stopped f
+
+-- the same, unless memory has run out
+abbrev pub ReadsInRoom : {A B : Type 0} → (A → B) → Result A Halt → Words → Taken B → Type 0
+ReadsInRoom value (Ok x) w t = t ≡ taken (value x) (left w)
+ReadsInRoom value (Err (NoCall f)) w t = t ≡ stopped f
+ReadsInRoom value (Err Memory) w t = ⊤
+
+-- r is this answer, unless memory has run out
+abbrev pub AnswersInRoom : {A B : Type 0} → (A → B) → Result A Halt → Result B LineFault → Type 0
+AnswersInRoom value (Ok x) o = o ≡ Ok (value x)
+AnswersInRoom value (Err (NoCall f)) o = o ≡ Err f
+AnswersInRoom value (Err Memory) o = ⊤

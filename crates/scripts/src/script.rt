@@ -1,0 +1,119 @@
+// Scripts: a call to a line, performed one after the other on a book that begins empty.
+ghost use Rattle.std.specs.Prelude.{◌≡◌, [], ◌∷◌, ◌++◌, IfOk, IfSome, List, OnErr, OnOk, map, string_bytes};
+ghost use Rattle.runs.specs.Steps.{Step, drawn, standing};
+ghost use Rattle.scripts.specs.Lines.{asked_of, line_request};
+ghost use Rattle.scripts.specs.Replies.{reply};
+ghost use Rattle.scripts.specs.Scripts.{LineDone, LinesDone, LineUpheld, ScriptDone, line_outcome, lines};
+
+use crate::halt::{Halt, ScriptFault};
+use crate::marks::{mark, write};
+use crate::request::{Request, request_of};
+use runs::{Answer, State};
+use std::alloc::{AllocError, Global};
+
+// No memory is left for the first line.
+const NO_MEMORY: ScriptFault = ScriptFault {
+    line: 1,
+    halt: Halt::Memory,
+};
+
+// Adds an answer, on a line of its own; where memory has run out nothing is added.
+fn add_line(answers: &mut String, answer: String) -> Result<(), AllocError>
+    ensures added { OnOk result (string_bytes answers.new ≡ string_bytes answers.old ++ (string_bytes answer ++ 10 ∷ [])) }
+    ensures kept { OnErr result (string_bytes answers.new ≡ string_bytes answers.old) }
+{
+    let mut line = answer;
+    line.push('\n')?;
+    answers.push_str(line.as_str())
+}
+
+// Does what a line asks for, and answers the book after it; where memory has run out nothing is answered.
+fn perform_request(
+    heap: Global,
+    state: State,
+    request: Request,
+    answers: &mut String,
+) -> Result<State, AllocError>
+    ensures after { IfOk result (λ s. standing s ≡ (reply (standing state) (asked_of request)).after) }
+    ensures answer { OnOk result (string_bytes answers.new ≡ string_bytes answers.old ++ ((reply (standing state) (asked_of request)).text ++ 10 ∷ [])) }
+    ensures kept { OnErr result (string_bytes answers.new ≡ string_bytes answers.old) }
+    ensures promise { OnOk result ((cs : List Step) → standing state ≡ drawn cs → LineUpheld cs (Some (asked_of request))) }
+{
+    match request {
+        Request::Perform(call) => {
+            let (state, outcome) = state.perform(&call);
+            let answer = Answer(outcome);
+            add_line(answers, format!(in heap; "{answer}")?)?;
+            Ok(state)
+        }
+        Request::Mark {
+            pile,
+            axioms,
+            names,
+        } => {
+            let answer = mark(heap, &state, pile, axioms, names)?;
+            add_line(answers, answer)?;
+            Ok(state)
+        }
+        Request::Write {
+            pile,
+            axioms,
+            names,
+            part,
+        } => {
+            let answer = write(heap, &state, pile, axioms, names, part)?;
+            add_line(answers, answer)?;
+            Ok(state)
+        }
+    }
+}
+
+// Does what a line asks for, if anything, and answers the book after it.
+fn perform_line(heap: Global, state: State, line: &str, answers: &mut String) -> Result<State, Halt>
+    ensures done { LineDone (string_bytes answers.old) (string_bytes answers.new) result (line_outcome (standing state) (line_request line.now)) }
+    ensures promise { OnOk result ((cs : List Step) → standing state ≡ drawn cs → IfOk (line_request line.now) (LineUpheld cs)) }
+{
+    match request_of(heap, line)? {
+        None => Ok(state),
+        Some(request) => Ok(perform_request(heap, state, request, answers)?),
+    }
+}
+
+// The lines of a script.
+fn lines_of(heap: Global, script: &str) -> Result<Vec<&str>, AllocError>
+    ensures { IfOk result (λ v. map (λ l. l.now) v.items ≡ lines script.now) }
+{
+    script.split('\n').collect(heap)
+}
+
+// Performs lines on an empty draft, one after the other, and adds an answer for each call.
+fn perform_all(heap: Global, lines: &[&str], answers: &mut String) -> Result<(), ScriptFault>
+    ensures { LinesDone [] 1 (map (λ l. l.now) lines.now) (string_bytes answers.old) (string_bytes answers.new) result }
+{
+    let mut state = match State::open(heap) {
+        Ok(state) => state,
+        Err(_) => return Err(NO_MEMORY),
+    };
+    for (before, line) in lines.iter().enumerate() {
+        match perform_line(heap, state, line, answers) {
+            Ok(after) => state = after,
+            Err(halt) => {
+                return Err(ScriptFault {
+                    line: before + 1,
+                    halt,
+                });
+            }
+        }
+    }
+    Ok(())
+}
+
+// Performs the calls of a script on an empty draft, and adds an answer for each.
+pub fn perform_lines(heap: Global, script: &str, answers: &mut String) -> Result<(), ScriptFault>
+    ensures { ScriptDone script.now (string_bytes answers.old) (string_bytes answers.new) result }
+{
+    match lines_of(heap, script) {
+        Ok(lines) => perform_all(heap, lines.as_slice(), answers),
+        Err(_) => Err(NO_MEMORY),
+    }
+}
