@@ -1,4 +1,3 @@
-mod Attempted
 mod Digits
 mod Pairs
 mod Performed

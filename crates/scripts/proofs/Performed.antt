@@ -11,7 +11,7 @@ use Rattle.scripts.specs.declared.halt.Halt.TheVariants.{NoCall, Memory}
 use Rattle.scripts.specs.declared.halt.LineFault.{LineFault}
 use Rattle.scripts.specs.declared.halt.ScriptFault.{ScriptFault}
 use Rattle.scripts.specs.Lines.{Asked, perform, mark, write, line_request}
-use Rattle.scripts.specs.Scripts.{AllUpheld, HaltsAt, LineDone, LinesDone, LinesHalt, LineUpheld, Reaches, ScriptOutcome, after_line, answer_line, calls_of, followed_by, line_outcome, lines_outcome}
+use Rattle.scripts.specs.Scripts.{AllUpheld, LineDone, LinesDone, LinesHalt, LineUpheld, Reaches, ScriptOutcome, after_line, answer_line, calls_of, followed_by, line_outcome, lines_outcome}
 
 -- the book after a line is the one that its calls lead to, behind those before them
 by_calls : (cs : List Step) (r : Option Asked) → after_line (drawn cs) r ≡ drawn (cs ++ calls_of r)
@@ -88,16 +88,6 @@ module _ (cs : List Step) (number : ℕ) (l : List ℕ) (rest : List (List ℕ))
 
   pub line_ends : (h : Halt) (old new : List ℕ) (s : Standing) → s ≡ drawn cs → LineDone old new (Err h) (line_outcome s (line_request l)) → LinesHalt cs number (l ∷ rest) old new number h
   line_ends h old new s here so = ends h old new (line_request l) refl (subst (λ x. LineDone old new (Err h) (line_outcome x (line_request l))) here so)
-
--- memory is short before the first line
-pub none_performed : (ls : List (List ℕ)) (old : List ℕ) → HaltsAt [] 1 ls old old 1
-none_performed ls old = record {
-  before = [];
-  rest = ls;
-  parts = refl;
-  place = refl;
-  performed = record { stops = refl; grows = sym (append-nil old); promise = tt };
-}
 
 -- the lines from a place on
 module _ {X : Type 0} (text : X → List ℕ) (xs : List X) (at : ℕ) where
