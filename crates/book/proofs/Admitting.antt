@@ -1,7 +1,7 @@
 -- Filing an axiom, outcome by outcome.
 use Rattle.std.proofs.Common.{◌≡◌, ℕ, ◌+◌, ◌<◌, ◌≤◌, Bool, true, false, cond, ltb, leb, List, [], ◌∷◌, ◌++◌, length, take, Some, None, sym, refl, ap, ◌∙◌, arith, ltb-false, leb-false}
 use Rattle.std.proofs.lemmas.List.{take_at}
-use Rattle.vocabulary.specs.Naming.{accepted, refused}
+use Rattle.refusals.specs.Turns.{accepted, refused}
 use Rattle.terms.specs.declared.«axiom».AxiomKind.{AxiomKind}
 use Rattle.terms.specs.declared.fault.ItemFault.{ItemFault}
 use Rattle.terms.specs.declared.term.Term.{Term}

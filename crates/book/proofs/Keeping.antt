@@ -13,7 +13,8 @@ use Rattle.vocabulary.specs.declared.fault.NameFault.TheVariants.{LabelTaken, Ta
 use Rattle.vocabulary.specs.declared.kind.Kind.{Kind}
 use Rattle.vocabulary.specs.declared.name.NameId.{NameId}
 use Rattle.vocabulary.specs.Entities.{Entity, reseed, kinding, labelling, held}
-use Rattle.vocabulary.specs.Naming.{naming, naming_with, accepted, refused, fresh}
+use Rattle.refusals.specs.Turns.{accepted, refused}
+use Rattle.vocabulary.specs.Naming.{naming, naming_with, fresh}
 use Rattle.vocabulary.proofs.Kept.{reseed_kinds}
 use Rattle.terms.specs.declared.«axiom».AxiomKind.{AxiomKind}
 use Rattle.terms.specs.declared.term.Term.{Term}

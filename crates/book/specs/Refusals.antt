@@ -1,7 +1,8 @@
 -- Number, layer and place of each refusal of a call, outside loading.
-use Rattle.vocabulary.specs.declared.refusal.Reason.TheVariants as Reason'
-use Rattle.vocabulary.specs.declared.refusal.Refusal.{Refusal}
-use Rattle.vocabulary.specs.Refusals.{of_file, of_book, name_refusal}
+use Rattle.refusals.specs.declared.reason.Reason.TheVariants as Reason'
+use Rattle.refusals.specs.declared.refusal.Refusal.{Refusal}
+use Rattle.refusals.specs.Refusals.{refusal_at}
+use Rattle.vocabulary.specs.Refusals.{name_refusal}
 use Rattle.terms.specs.Refusals.{item_refusal}
 use Rattle.book.specs.declared.fault.BookFault.{BookFault}
 use Rattle.book.specs.declared.fault.BookFault.TheVariants.{Item, Name, LeftOver, AxiomsFull, BytesFull, NoSuchAxiom}
@@ -11,14 +12,14 @@ use Rattle.book.specs.declared.fault.FileFault.TheVariants.{NotEmpty, CutShort, 
 abbrev pub book_refusal : BookFault → Refusal
 book_refusal (Item e) = item_refusal e
 book_refusal (Name e) = name_refusal e
-book_refusal (LeftOver at) = of_book Reason'.LeftOver at
-book_refusal AxiomsFull = of_book Reason'.AxiomsFull 0
-book_refusal BytesFull = of_book Reason'.BytesFull 0
-book_refusal NoSuchAxiom = of_book Reason'.NoSuchAxiom 0
+book_refusal (LeftOver at) = refusal_at Reason'.LeftOver at
+book_refusal AxiomsFull = refusal_at Reason'.AxiomsFull 0
+book_refusal BytesFull = refusal_at Reason'.BytesFull 0
+book_refusal NoSuchAxiom = refusal_at Reason'.NoSuchAxiom 0
 
 abbrev pub file_refusal : FileFault → Refusal
-file_refusal NotEmpty = of_file Reason'.NotEmpty 0
-file_refusal CutShort = of_file Reason'.RecordCutShort 0
-file_refusal UnknownKind = of_file Reason'.UnknownKind 0
-file_refusal BodyTooLong = of_file Reason'.BodyTooLong 0
+file_refusal NotEmpty = refusal_at Reason'.NotEmpty 0
+file_refusal CutShort = refusal_at Reason'.RecordCutShort 0
+file_refusal UnknownKind = refusal_at Reason'.UnknownKind 0
+file_refusal BodyTooLong = refusal_at Reason'.BodyTooLong 0
 file_refusal (Book e) = book_refusal e

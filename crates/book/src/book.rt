@@ -47,7 +47,8 @@ pub struct Book {
 }
 
 impl Book {
-    ghost use Rattle.book.specs.Calls.{Gives, contents, empty, blank, naming_call, seeding_call, forcing_call, admission, obstacle_of};
+    ghost use Rattle.refusals.specs.Turns.{Gives};
+    ghost use Rattle.book.specs.Calls.{contents, empty, blank, naming_call, seeding_call, forcing_call, admission, obstacle_of};
 
     // A book with nothing in it. All memory that it will ever need is claimed here.
     fn new(heap: Global) -> Result<Book, AllocError>
@@ -89,21 +90,21 @@ impl Book {
 
     // Makes a name of a kind byte and a label, and answers its number; the byte is any, as `Draft::name` tells.
     fn name(&mut self, kind: u8, label: &[u8]) -> Result<NameId, BookFault>
-        ensures { Gives self.new result (naming_call (contents self.old) kind label.now) }
+        ensures { Gives (contents self.new) result (naming_call (contents self.old) kind label.now) }
     {
         Ok(self.names.name(kind, label)?)
     }
 
     // Puts a name into the signature or takes it out.
     fn set_seeded(&mut self, id: NameId, on: bool) -> Result<(), BookFault>
-        ensures { Gives self.new result (seeding_call (contents self.old) id.0 on) }
+        ensures { Gives (contents self.new) result (seeding_call (contents self.old) id.0 on) }
     {
         Ok(self.names.set_seeded(id, on)?)
     }
 
     // Puts an axiom in force, or lays it aside.
     fn set_in_force(&mut self, id: AxiomId, on: bool) -> Result<(), BookFault>
-        ensures { Gives self.new result (forcing_call (contents self.old) id.0 on) }
+        ensures { Gives (contents self.new) result (forcing_call (contents self.old) id.0 on) }
     {
         let filed = self
             .axioms
@@ -134,7 +135,7 @@ impl Book {
     // Files an axiom of a kind.
     fn admit(&mut self, kind: AxiomKind, body: &[u8]) -> Result<AxiomId, BookFault>
         requires { length body.now ≤ 512 }
-        ensures { Gives self.new result (admission (contents self.old) kind body.now) }
+        ensures { Gives (contents self.new) result (admission (contents self.old) kind body.now) }
     {
         let before = self.terms.count();
         let parsed = read_axiom(&mut self.terms, &self.names, kind, body).unwrap()?;
@@ -160,7 +161,8 @@ pub struct Draft {
 }
 
 impl Draft {
-    ghost use Rattle.book.specs.Calls.{Gives, contents, empty, naming_call, seeding_call, forcing_call, filing_call, filing_of};
+    ghost use Rattle.refusals.specs.Turns.{Gives};
+    ghost use Rattle.book.specs.Calls.{contents, empty, naming_call, seeding_call, forcing_call, filing_call, filing_of};
 
     // An empty draft. All memory that the book will ever need is claimed here.
     pub fn open(heap: Global) -> Result<Draft, AllocError>
@@ -189,7 +191,7 @@ impl Draft {
     // Makes a name of a kind byte and a label, and answers its number. Any byte may be passed, since refusing it is this
     // call's promise.
     pub fn name(&mut self, kind: u8, label: &[u8]) -> Result<NameId, BookFault>
-        ensures { Gives self.new.book result (naming_call (contents self.old.book) kind label.now) }
+        ensures { Gives (contents self.new.book) result (naming_call (contents self.old.book) kind label.now) }
     {
         self.book.name(kind, label)
     }
@@ -197,28 +199,28 @@ impl Draft {
     // Puts a name into the signature. This and the three calls after it are named apart, since a list of calls tells them
     // apart; what each pair has in common is the function that takes the flag.
     pub fn seed(&mut self, id: NameId) -> Result<(), BookFault>
-        ensures { Gives self.new.book result (seeding_call (contents self.old.book) id.0 true) }
+        ensures { Gives (contents self.new.book) result (seeding_call (contents self.old.book) id.0 true) }
     {
         self.book.set_seeded(id, true)
     }
 
     // Takes a name out of the signature.
     pub fn unseed(&mut self, id: NameId) -> Result<(), BookFault>
-        ensures { Gives self.new.book result (seeding_call (contents self.old.book) id.0 false) }
+        ensures { Gives (contents self.new.book) result (seeding_call (contents self.old.book) id.0 false) }
     {
         self.book.set_seeded(id, false)
     }
 
     // Lays an axiom aside: it is in force no more.
     pub fn lay_aside(&mut self, id: AxiomId) -> Result<(), BookFault>
-        ensures { Gives self.new.book result (forcing_call (contents self.old.book) id.0 false) }
+        ensures { Gives (contents self.new.book) result (forcing_call (contents self.old.book) id.0 false) }
     {
         self.book.set_in_force(id, false)
     }
 
     // Puts an axiom that was laid aside in force again.
     pub fn restore(&mut self, id: AxiomId) -> Result<(), BookFault>
-        ensures { Gives self.new.book result (forcing_call (contents self.old.book) id.0 true) }
+        ensures { Gives (contents self.new.book) result (forcing_call (contents self.old.book) id.0 true) }
     {
         self.book.set_in_force(id, true)
     }
@@ -226,7 +228,7 @@ impl Draft {
     // Files an axiom of a record kind, 16 to 22, and answers its number; it is in force. Any number may be passed, since
     // refusing it is this call's promise.
     pub fn file(&mut self, kind: u16, body: &[u8]) -> Result<AxiomId, FileFault>
-        ensures { Gives self.new.book result (filing_call (contents self.old.book) kind body.now) }
+        ensures { Gives (contents self.new.book) result (filing_call (contents self.old.book) kind body.now) }
     {
         let kind = AxiomKind::try_from(kind).map_err(|_| FileFault::UnknownKind)?;
         self.file_axiom(kind, body)
@@ -234,7 +236,7 @@ impl Draft {
 
     // Files an axiom of a kind, and answers its number; it is in force.
     pub fn file_axiom(&mut self, kind: AxiomKind, body: &[u8]) -> Result<AxiomId, FileFault>
-        ensures { Gives self.new.book result (filing_of (contents self.old.book) (Some kind) body.now) }
+        ensures { Gives (contents self.new.book) result (filing_of (contents self.old.book) (Some kind) body.now) }
     {
         if body.len() > LONGEST_BODY {
             return Err(FileFault::BodyTooLong);

@@ -1,5 +1,5 @@
 ghost use Rattle.std.specs.Prelude.{◌≡◌, Some};
-ghost use Rattle.vocabulary.specs.Refusals.{reason_text};
+ghost use Rattle.refusals.specs.Refusals.{reason_text};
 ghost use Rattle.book.specs.Refusals.{book_refusal, file_refusal};
 ghost use Rattle.book.specs.declared.fault.BookFault.TheVariants.{Item as OfItem, Name as OfName};
 ghost use Rattle.book.specs.declared.fault.FileFault.TheVariants.{Book as OfBook};
@@ -8,7 +8,8 @@ ghost use Rattle.terms.specs.declared.fault.ItemFault.TheVariants.{WrongName as 
 use std::error::Error;
 use std::fmt;
 use terms::ItemFault;
-use vocabulary::{Layer, NameFault, NoSuchName, Reason, Refusal};
+use refusals::{Reason, Refusal};
+use vocabulary::{NameFault, NoSuchName};
 
 // Why a book refuses a call.
 #[derive(Clone, Copy, Debug, PartialEq, Eq, Hash)]
@@ -66,7 +67,6 @@ impl BookFault {
         };
         Refusal {
             reason,
-            layer: Layer::Book,
             place,
         }
     }
@@ -122,7 +122,6 @@ impl FileFault {
         };
         Refusal {
             reason,
-            layer: Layer::File,
             place: 0,
         }
     }

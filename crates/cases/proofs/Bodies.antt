@@ -1,8 +1,8 @@
 -- Some bodies filed into the example.
 use Rattle.std.proofs.Common.{ℕ, List, [], ◌∷◌, ◌++◌, replicate, refl}
 use Rattle.vocabulary.specs.declared.name.NameId.{NameId}
-use Rattle.vocabulary.specs.declared.refusal.Reason.TheVariants as Reason'
-use Rattle.vocabulary.specs.Refusals.{of_item}
+use Rattle.refusals.specs.declared.reason.Reason.TheVariants as Reason'
+use Rattle.refusals.specs.Refusals.{refusal_at}
 use Rattle.terms.specs.Forms.{everything, concept, inclusion}
 use Rattle.terms.specs.Reading.{read_whole}
 use Rattle.book.specs.Calls.{admission}
@@ -15,7 +15,7 @@ module _ (aside : List ℕ) (seed : NameId) where
   unfolding admission read_whole
   files = refl
 
-  pub refuses : Refuses (example aside seed) 16 (2 ∷ 1 ∷ 0 ∷ 2 ∷ 4 ∷ 0 ∷ []) (of_item Reason'.WrongName 4)
+  pub refuses : Refuses (example aside seed) 16 (2 ∷ 1 ∷ 0 ∷ 2 ∷ 4 ∷ 0 ∷ []) (refusal_at Reason'.WrongName 4)
   unfolding admission read_whole
   refuses = record { answer = refl; unchanged = refl }
 
@@ -23,6 +23,6 @@ module _ (aside : List ℕ) (seed : NameId) where
   unfolding admission read_whole
   files_deep = refl
 
-  pub refuses_deep : Refuses (example aside seed) 16 (replicate 24 4 ++ 1 ∷ 1 ∷ []) (of_item Reason'.TooDeep 24)
+  pub refuses_deep : Refuses (example aside seed) 16 (replicate 24 4 ++ 1 ∷ 1 ∷ []) (refusal_at Reason'.TooDeep 24)
   unfolding admission read_whole
   refuses_deep = record { answer = refl; unchanged = refl }

@@ -1,10 +1,10 @@
 -- The worked cases: what stages of the two tests keep of the example, and what its book says to some axioms.
 use Rattle.std.specs.Prelude.{◌≡◌, ℕ, zero, suc, true, List, [], ◌∷◌, ◌++◌, replicate, Err}
 use Rattle.vocabulary.specs.declared.name.NameId.{NameId}
-use Rattle.vocabulary.specs.declared.refusal.Refusal.{Refusal}
-use Rattle.vocabulary.specs.Naming.{accepted}
-use Rattle.vocabulary.specs.declared.refusal.Reason.TheVariants as Reason'
-use Rattle.vocabulary.specs.Refusals.{of_item}
+use Rattle.refusals.specs.declared.refusal.Refusal.{Refusal}
+use Rattle.refusals.specs.Turns.{accepted}
+use Rattle.refusals.specs.declared.reason.Reason.TheVariants as Reason'
+use Rattle.refusals.specs.Refusals.{refusal_at}
 use Rattle.terms.specs.Forms.{Form, Rule, everything, concept, negation, inclusion}
 use Rattle.book.specs.Contents.{Contents}
 use Rattle.book.specs.Calls.{raise, filing_call}
@@ -56,7 +56,7 @@ pub record WorkedCases (bottom top : Filling) : Type 0 where
   -- whatever is laid aside and seeded: every Distance is a Relay, filed once more
   pub filed : (aside : List ℕ) (seed : NameId) → Files (example aside seed) 16 (2 ∷ 1 ∷ 0 ∷ 2 ∷ 0 ∷ 0 ∷ []) (inclusion (concept distance) (concept relay)) 7
   -- a role where a concept is wanted
-  pub wrong_name : (aside : List ℕ) (seed : NameId) → Refuses (example aside seed) 16 (2 ∷ 1 ∷ 0 ∷ 2 ∷ 4 ∷ 0 ∷ []) (of_item Reason'.WrongName 4)
+  pub wrong_name : (aside : List ℕ) (seed : NameId) → Refuses (example aside seed) 16 (2 ∷ 1 ∷ 0 ∷ 2 ∷ 4 ∷ 0 ∷ []) (refusal_at Reason'.WrongName 4)
   -- a term of nesting 24 is filed, one of 25 is refused at its innermost term
   pub deep : (aside : List ℕ) (seed : NameId) → Files (example aside seed) 16 (replicate 23 4 ++ 1 ∷ 1 ∷ []) (inclusion (negated 23) everything) 7
-  pub too_deep : (aside : List ℕ) (seed : NameId) → Refuses (example aside seed) 16 (replicate 24 4 ++ 1 ∷ 1 ∷ []) (of_item Reason'.TooDeep 24)
+  pub too_deep : (aside : List ℕ) (seed : NameId) → Refuses (example aside seed) 16 (replicate 24 4 ++ 1 ∷ 1 ∷ []) (refusal_at Reason'.TooDeep 24)

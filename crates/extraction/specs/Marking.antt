@@ -1,9 +1,9 @@
 -- What marking answers, and what it writes into its two buffers.
 use Rattle.std.specs.Prelude.{◌≡◌, ℕ, zero, suc, Bool, true, false, cond, not, ◌||◌, List, [], ◌∷◌, length, Result, nat_lt}
-use Rattle.vocabulary.specs.declared.refusal.Reason.TheVariants as Reason'
-use Rattle.vocabulary.specs.declared.refusal.Refusal.{Refusal}
-use Rattle.vocabulary.specs.Naming.{Turn, accepted, refused}
-use Rattle.vocabulary.specs.Refusals.{of_book}
+use Rattle.refusals.specs.declared.reason.Reason.TheVariants as Reason'
+use Rattle.refusals.specs.declared.refusal.Refusal.{Refusal}
+use Rattle.refusals.specs.Turns.{Turn, accepted, refused}
+use Rattle.refusals.specs.Refusals.{refusal_at}
 use Rattle.book.specs.Contents.{Contents}
 use Rattle.locality.specs.Meaning.{some_below}
 use Rattle.locality.specs.Worlds.{Names}
@@ -57,16 +57,16 @@ module _ (b : Contents) where
 
     -- marking with an extractor that keeps this set in so many rounds: an empty signature is refused first, then a
     -- buffer that is too short, and a refusal changes no buffer
-    abbrev pub marking : Buffers → Turn Buffers Marking MarkFault
+    abbrev pub marking : Buffers → Turn Buffers (Result Marking MarkFault)
     marking buffers =
         cond unseeded (refused buffers EmptySignature)
         (cond (too_short buffers) (refused buffers ShortBuffer) (accepted (marked_buffers buffers) marked_answer))
 
 -- the buffers hold what the turn leaves, and r is its answer
-pub record MarksAs (axioms names : List ℕ) (r : Result Marking MarkFault) (turn : Turn Buffers Marking MarkFault) : Type 0 where
+pub record MarksAs (axioms names : List ℕ) (r : Result Marking MarkFault) (turn : Turn Buffers (Result Marking MarkFault)) : Type 0 where
   pub buffers : record { axioms = axioms; names = names } ≡ turn.state
   pub answer : r ≡ turn.answer
 
 abbrev pub mark_refusal : MarkFault → Refusal
-mark_refusal EmptySignature = of_book Reason'.EmptySignature 0
-mark_refusal ShortBuffer = of_book Reason'.ShortBuffer 0
+mark_refusal EmptySignature = refusal_at Reason'.EmptySignature 0
+mark_refusal ShortBuffer = refusal_at Reason'.ShortBuffer 0

@@ -1,7 +1,7 @@
 // Marking a frozen book.
 ghost use Rattle.std.specs.List.{list_any};
 ghost use Rattle.std.specs.Prelude.{◌≡◌, Some, length};
-ghost use Rattle.vocabulary.specs.Refusals.{reason_text};
+ghost use Rattle.refusals.specs.Refusals.{reason_text};
 ghost use Rattle.book.specs.Calls.{contents};
 ghost use Rattle.locality.specs.Meaning.{count_below};
 ghost use Rattle.extraction.specs.Extractors.{Meaning};
@@ -15,7 +15,8 @@ use crate::tables::Tables;
 use book::{Book, Frozen};
 use std::error::Error;
 use std::fmt;
-use vocabulary::{Layer, Name, Reason, Refusal};
+use refusals::{Reason, Refusal};
+use vocabulary::Name;
 
 // What marking answers: how many axioms are marked, how many names the closed signature has, how many of them are drawn
 // in, that is, outside the signature, and the rounds.
@@ -48,7 +49,6 @@ impl MarkFault {
         };
         Refusal {
             reason,
-            layer: Layer::Book,
             place: 0,
         }
     }

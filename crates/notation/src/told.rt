@@ -3,7 +3,7 @@ ghost use Rattle.std.specs.Prelude.{Some};
 ghost use Rattle.notation.specs.Refusals.{told_text};
 
 use std::fmt;
-use vocabulary::Refusal;
+use refusals::Refusal;
 
 // A refusal as a line for a reader.
 #[derive(Clone, Copy, Debug)]
@@ -13,11 +13,8 @@ impl fmt::Display for Told {
     ghost output = { λ t. Some (told_text t.0) };
 
     fn fmt<W: fmt::Write>(&self, f: &mut fmt::Formatter<W>) -> fmt::Result {
-        let Refusal {
-            reason,
-            layer,
-            place,
-        } = self.0;
+        let Refusal { reason, place } = self.0;
+        let layer = self.0.layer();
         let number = u8::from(reason);
         let digit = u8::from(layer);
         write!(

@@ -10,7 +10,8 @@ use Rattle.vocabulary.specs.declared.kind.Kind.TheVariants.{Concept, Role, Indiv
 use Rattle.vocabulary.specs.declared.name.NameId.{NameId}
 use Rattle.vocabulary.specs.Entities.{Entity, labelling, held, reseed}
 use Rattle.vocabulary.specs.Kinds.{kind_of, code_of}
-use Rattle.vocabulary.specs.Naming.{Turn, accepted, refused, fresh, naming, naming_with}
+use Rattle.refusals.specs.Turns.{Turn, accepted, refused}
+use Rattle.vocabulary.specs.Naming.{fresh, naming, naming_with}
 use Rattle.vocabulary.proofs.Kept.{labelling_same}
 use Rattle.terms.specs.declared.«axiom».AxiomKind.{AxiomKind}
 use Rattle.terms.specs.declared.«axiom».AxiomKind.TheVariants.{Inclusion, Equivalence, RoleInclusion, Transitive, Functional, ConceptAssertion, RoleAssertion}
@@ -36,7 +37,7 @@ use Rattle.part.proofs.Split.{refused_not, byte_at}
 use Rattle.terms.proofs.Numbers.{chosen, none_chosen, two_bytes_are}
 
 -- a call that a test might refuse was not refused by it
-passed : {S A F : Type 0} (t : Bool) (s : S) (f : F) (turn : Turn S A F) (m : S) (x : A) → cond t (refused s f) turn ≡ accepted m x → turn ≡ accepted m x
+passed : {S A F : Type 0} (t : Bool) (s : S) (f : F) (turn : Turn S (Result A F)) (m : S) (x : A) → cond t (refused s f) turn ≡ accepted m x → turn ≡ accepted m x
 passed true s f turn m x h = absurd (refused_not s m f x h)
 passed false s f turn m x h = h
 
@@ -49,13 +50,13 @@ done_ok : {A F : Type 0} (r : Result A F) → done r ≡ Ok tt → (x : A) × (r
 done_ok (Ok x) e = (x, refl)
 done_ok (Err f) e = absurd (cc)
 
-taken_ok : {A F G : Type 0} (up : F → G) (t : Turn Contents A F) (m : Contents) → taken_as up t ≡ accepted m tt → (x : A) × (t ≡ accepted m x)
+taken_ok : {A F G : Type 0} (up : F → G) (t : Turn Contents (Result A F)) (m : Contents) → taken_as up t ≡ accepted m tt → (x : A) × (t ≡ accepted m x)
 taken_ok up t m h =
     let d = done_ok (raise up t.answer) (ap (λ u. u.answer) h) in
     (d.0, ap₂ (λ s a. record { state = s; answer = a }) (ap (λ u. u.state) h) (raise_ok up t.answer d.0 d.1))
 
 -- a record with a body that is not too long
-bounded_ok : (b m : Contents) (body : List ℕ) (t : Turn Contents (Unit {0}) BookFault) → bounded b body t ≡ accepted m tt → t ≡ accepted m tt
+bounded_ok : (b m : Contents) (body : List ℕ) (t : Turn Contents (Result (Unit {0}) BookFault)) → bounded b body t ≡ accepted m tt → t ≡ accepted m tt
 bounded_ok b m body t h = (taken_ok Book t m (passed (ltb 512 (length body)) b BodyTooLong (taken_as Book t) m tt h)).1
 
 kind_byte : (n : ℕ) (k : Kind) → kind_of n ≡ Some k → n ≡ code_of k

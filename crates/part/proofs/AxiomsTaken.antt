@@ -5,7 +5,7 @@ use Rattle.std.proofs.lemmas.List.Sums.{sum_by-append, sum_by-cons}
 use Rattle.std.proofs.lemmas.Bool.{leb-true, le-ltb, lt-leb, and_parts, cond-false}
 use Rattle.vocabulary.specs.Entities.{Entity}
 use Rattle.std.specs.List.{list_all}
-use Rattle.vocabulary.specs.Naming.{Turn, accepted}
+use Rattle.refusals.specs.Turns.{Turn, accepted}
 use Rattle.terms.specs.declared.«axiom».AxiomKind.{AxiomKind}
 use Rattle.terms.specs.declared.«axiom».AxiomKind.TheVariants.{Inclusion, Equivalence, RoleInclusion, Transitive, Functional, ConceptAssertion, RoleAssertion}
 use Rattle.terms.specs.Forms.{Rule}
@@ -46,7 +46,7 @@ axiom_taken b r good room space =
     let turn = admission_done b (rule_kind r) (body_bytes r) r _ _ _ (sym (read_back b.names r p.0)) refl refl (room_left _ _ _ room space) in
     filed_turn b (rule_kind r) (body_bytes r) ∙
     ap (taken_as (λ f. f)) (cond-false _ _ _ (le-ltb 512 (length (body_bytes r)) short)) ∙
-    ap (λ (t : Turn Contents AxiomId BookFault). taken_as (λ f. f) (record { state = t.state; answer = raise Book t.answer })) turn
+    ap (λ (t : Turn Contents (Result AxiomId BookFault)). taken_as (λ f. f) (record { state = t.state; answer = raise Book t.answer })) turn
 
 -- all axioms, after those that there are
 pub axioms_taken : (names : List Entity) (fs : List Filing) (rs : List Rule) (all : List Filing) → all ≡ fs ++ map forced rs → list_all (sound names) (map forced rs) ≡ true → length all ≤ 1024 → bodies_length all ≤ 32768 → Takes (record { names = names; axioms = fs }) (map axiom_entry rs) (record { names = names; axioms = all })

@@ -2,7 +2,7 @@
 -- are what loading takes.
 use Rattle.std.proofs.Common.{◌≡◌, ℕ, zero, suc, ◌+◌, ◌*◌, ◌/◌, ◌%◌, ◌≤◌, List, [], ◌∷◌, ◌++◌, length, get_or, take, drop, Ok, sym, refl, ap, ◌∙◌, ap₂, arith, length-append, length-drop, get_or-drop, drop-drop, take_at, drop_at}
 use Rattle.std.proofs.lemmas.Bool.{le-ltb, le-leb, lt-leb, cond-true, cond-false}
-use Rattle.vocabulary.specs.Naming.{accepted}
+use Rattle.refusals.specs.Turns.{accepted}
 use Rattle.book.specs.Contents.{Contents}
 use Rattle.records.specs.Files.{Entry, word_at, record_at}
 use Rattle.records.specs.Loading.{record_turn, after_record, after_turn, loads}

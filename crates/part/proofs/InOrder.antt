@@ -8,7 +8,8 @@ use Rattle.std.proofs.lemmas.List.Elements.{All-drop}
 use Rattle.std.proofs.lemmas.List.Sums.{AllPass-from_list_all, list_all-from_AllPass}
 use Rattle.vocabulary.specs.Entities.{Entity, reseed}
 use Rattle.std.specs.List.{list_all}
-use Rattle.vocabulary.specs.Naming.{accepted, fresh}
+use Rattle.refusals.specs.Turns.{accepted}
+use Rattle.vocabulary.specs.Naming.{fresh}
 use Rattle.terms.specs.Forms.{Rule}
 use Rattle.book.specs.Contents.{Contents}
 use Rattle.book.specs.Calls.{empty}

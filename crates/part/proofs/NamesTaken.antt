@@ -13,7 +13,8 @@ use Rattle.vocabulary.specs.Entities.{Entity, kinding, labelling, named, held, d
 use Rattle.vocabulary.specs.Kinds.{code_of}
 use Rattle.vocabulary.specs.Labels.{fitting, graphics}
 use Rattle.std.specs.List.{list_all}
-use Rattle.vocabulary.specs.Naming.{Turn, accepted, fresh}
+use Rattle.refusals.specs.Turns.{Turn, accepted}
+use Rattle.vocabulary.specs.Naming.{fresh}
 use Rattle.std.proofs.lemmas.List.Folds.{list_any-append}
 use Rattle.vocabulary.proofs.Turns.{naming_done}
 use Rattle.book.specs.declared.fault.BookFault.TheVariants.{Name}
@@ -68,7 +69,7 @@ name_taken pre e es good apart room =
     let free = held_unseeded e.kind e.label pre ∙ not_held pre e es apart in
     let turn = naming_done (map unseeded pre) (code_of e.kind) e.label e.kind e.label (kind_back e.kind) label free (omega (arith, length-map pre unseeded)) in
     cond-false _ _ _ (le-ltb 512 (suc (length e.label)) (omega arith)) ∙
-    ap (λ (t : Turn (List Entity) NameId NameFault). taken_as Book (taken_as (λ f. f) (record { state = record { names = t.state; axioms = [] }; answer = raise Name t.answer }))) turn ∙
+    ap (λ (t : Turn (List Entity) (Result NameId NameFault)). taken_as Book (taken_as (λ f. f) (record { state = record { names = t.state; axioms = [] }; answer = raise Name t.answer }))) turn ∙
     ap (λ ns. accepted (record { names = ns; axioms = [] }) tt) (sym (map_push unseeded pre e))
 
 -- all names, after those that there are

@@ -5,7 +5,7 @@ use Rattle.std.proofs.lemmas.List.Sums.{sum_by-cons}
 use Rattle.std.proofs.lemmas.Bool.{and_parts, and_from, cond_both}
 use Rattle.vocabulary.specs.Entities.{Entity}
 use Rattle.std.specs.List.{list_all}
-use Rattle.vocabulary.specs.Naming.{accepted}
+use Rattle.refusals.specs.Turns.{accepted}
 use Rattle.book.specs.Contents.{Contents, Filing, body_length, bodies_length, sound}
 use Rattle.book.specs.Calls.{empty}
 use Rattle.records.specs.Files.{Entry}

@@ -1,6 +1,6 @@
 -- The two round trips of a part, and what the first needs of a book.
 use Rattle.std.proofs.Common.{◌≡◌, ℕ, true, List, Ok}
-use Rattle.vocabulary.specs.Naming.{accepted}
+use Rattle.refusals.specs.Turns.{accepted}
 use Rattle.book.specs.declared.book.Book.{Book}
 use Rattle.book.specs.Contents.{Contents}
 use Rattle.book.specs.Calls.{contents, empty}

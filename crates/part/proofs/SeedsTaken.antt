@@ -3,7 +3,7 @@ use Rattle.std.proofs.Common.{◌≡◌, ℕ, suc, ◌<◌, Bool, true, false, c
 use lib.Seq.{append_snoc}
 use Rattle.std.proofs.lemmas.Bool.{lt-ltb, cond-true}
 use Rattle.vocabulary.specs.Entities.{Entity, reseed}
-use Rattle.vocabulary.specs.Naming.{accepted}
+use Rattle.refusals.specs.Turns.{accepted}
 use Rattle.book.specs.declared.fault.FileFault.TheVariants.{Book}
 use Rattle.book.specs.Contents.{Contents}
 use Rattle.book.specs.Calls.{seeding_call}

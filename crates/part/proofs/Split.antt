@@ -2,7 +2,7 @@
 use Rattle.std.proofs.Common.{◌≡◌, ℕ, zero, suc, ◌+◌, ◌<◌, ◌≤◌, Bool, true, false, cond, ltb, leb, List, [], ◌∷◌, ◌++◌, length, get_or, take, drop, Ok, Err, Result, sym, refl, ap, ◌∙◌, subst, ap₂, arith, length-drop, take-append-drop, length-take, drop-drop}
 use Rattle.std.proofs.lemmas.List.{drop_all, drop_more}
 use Rattle.std.proofs.lemmas.Bool.{leb-true, ltb-true, ltb-false, and_parts}
-use Rattle.vocabulary.specs.Naming.{accepted, refused}
+use Rattle.refusals.specs.Turns.{accepted, refused}
 use Rattle.terms.specs.Writing.{two_bytes}
 use Rattle.terms.proofs.Numbers.{two_bytes_are}
 use Rattle.book.specs.declared.fault.FileFault.{FileFault}

@@ -1,6 +1,6 @@
 -- What writing a part answers, and what it leaves in its three buffers.
 use Rattle.std.specs.Prelude.{◌≡◌, ℕ, Bool, true, cond, ◌||◌, List, ◌++◌, length, drop, Ok, Result, nat_lt}
-use Rattle.vocabulary.specs.Naming.{Turn, accepted, refused}
+use Rattle.refusals.specs.Turns.{Turn, accepted, refused}
 use Rattle.book.specs.Contents.{Contents}
 use Rattle.book.specs.Calls.{contents, empty}
 use Rattle.records.specs.Loading.{loading}
@@ -38,7 +38,7 @@ module _ (b : Contents) (kept : Marks) where
 
   -- writing with an extractor that keeps this set: an empty signature is refused first, then a buffer that is too
   -- short, and a refusal changes no buffer; the answer is how many bytes the part has
-  abbrev pub writing : Buffers → Turn Buffers ℕ MarkFault
+  abbrev pub writing : Buffers → Turn Buffers (Result ℕ MarkFault)
   writing buffers =
       cond (unseeded b) (refused buffers EmptySignature)
       (cond (lacks_room buffers) (refused buffers ShortBuffer) (accepted (written_buffers buffers) (length (part_bytes b kept))))
@@ -54,7 +54,7 @@ module _ (b : Contents) (kept : Marks) where
     pub same : (file : List ℕ) (n : ℕ) → all_bytes file ≡ true → (loading empty file).answer ≡ Ok n → in_writer_order (entries_of file) ≡ true → b ≡ (loading empty file).state → kept ≡ is_in_force b → part_bytes b kept ≡ file
 
 -- the buffers hold what the turn leaves, and r is its answer
-pub record WritesAs (axioms names part : List ℕ) (r : Result ℕ MarkFault) (turn : Turn Buffers ℕ MarkFault) : Type 0 where
+pub record WritesAs (axioms names part : List ℕ) (r : Result ℕ MarkFault) (turn : Turn Buffers (Result ℕ MarkFault)) : Type 0 where
   pub buffers : record { axioms = axioms; names = names; part = part } ≡ turn.state
   pub answer : r ≡ turn.answer
 

@@ -1,12 +1,13 @@
 -- One record after the other.
 use Rattle.std.proofs.Common.{◌≡◌, ℕ, zero, suc, ◌+◌, ◌<◌, ◌≤◌, Bool, true, false, cond, ltb, List, length, take, drop, IfOk, IfErr, Ok, Err, Result, sym, refl, ap, ◌∙◌, subst, arith, length-drop, length-take, ltb-false, le-leb}
 use borrow.Author.Tests.{lt-leb}
-use Rattle.vocabulary.specs.Naming.{accepted, refused}
+use Rattle.refusals.specs.Turns.{accepted, refused}
 use Rattle.book.specs.declared.book.Draft.{Draft}
 use Rattle.book.specs.declared.fault.FileFault.{FileFault}
 use Rattle.book.specs.declared.fault.FileFault.TheVariants.{CutShort}
 use Rattle.book.specs.Contents.{Contents}
-use Rattle.book.specs.Calls.{Gives, contents}
+use Rattle.refusals.specs.Turns.{Gives}
+use Rattle.book.specs.Calls.{contents}
 use Rattle.records.specs.declared.reader.Record.{Record}
 use Rattle.records.specs.declared.reader.RecordReader.{RecordReader}
 use Rattle.records.specs.Files.{Entry, word_at, record_at}
@@ -45,7 +46,7 @@ module _ {from to : RecordReader} {x : Record} (y : Yields from (Ok x) to) where
   going rest taken b (Err f) = refl
 
   -- a record was read, and taken or refused
-  pub stepped : {before later : Draft} (r : Result (Unit {0}) FileFault) → Gives later.book r (record_turn (contents before.book) (entry_of x)) → Stepped before from r later to
+  pub stepped : {before later : Draft} (r : Result (Unit {0}) FileFault) → Gives (contents later.book) r (record_turn (contents before.book) (entry_of x)) → Stepped before from r later to
   stepped {before} {later} r g =
       let b = contents before.book in
       record {

@@ -4,8 +4,9 @@ use Rattle.std.proofs.lemmas.Result.{IfErr-at_err}
 use Rattle.vocabulary.specs.declared.fault.NameFault.{NameFault}
 use Rattle.vocabulary.specs.declared.fault.NameFault.TheVariants.{BadKind, LabelLength, LabelByte, LabelTaken, TableFull}
 use Rattle.vocabulary.specs.declared.name.NameId.{NameId}
-use Rattle.vocabulary.specs.declared.refusal.Refusal.{Refusal}
-use Rattle.vocabulary.specs.Naming.{Turn, naming, refused, accepted}
+use Rattle.refusals.specs.declared.refusal.Refusal.{Refusal}
+use Rattle.refusals.specs.Turns.{Turn, refused, accepted}
+use Rattle.vocabulary.specs.Naming.{naming}
 use Rattle.vocabulary.specs.Refusals.{name_refusal}
 use Rattle.vocabulary.specs.Entities.{reseed}
 use Rattle.terms.specs.declared.«axiom».AxiomKind.{AxiomKind}
@@ -38,7 +39,7 @@ done_near refusal n (Ok x) h = tt
 done_near refusal n (Err f) h = h
 
 -- a test that refuses at the record, or goes on
-test_near : {A F : Type 0} (refusal : F → Refusal) (n : ℕ) (b : Contents) (f : F) (s : Bool) (t : Turn Contents A F) → (refusal f).place ≡ 0 → Near refusal n t.answer → Near refusal n (cond s (refused b f) t).answer
+test_near : {A F : Type 0} (refusal : F → Refusal) (n : ℕ) (b : Contents) (f : F) (s : Bool) (t : Turn Contents (Result A F)) → (refusal f).place ≡ 0 → Near refusal n t.answer → Near refusal n (cond s (refused b f) t).answer
 test_near refusal n b f true t e h = omega (arith, e)
 test_near refusal n b f false t e h = h
 

@@ -1,7 +1,7 @@
 -- Loading: what the records of a file do to a book, one after the other.
 use Rattle.std.specs.Prelude.{ℕ, zero, suc, ◌+◌, ◌*◌, true, cond, List, [], ◌∷◌, length, Ok, Err, Result, ◌==◌, nat_le, nat_lt}
 use Rattle.vocabulary.specs.declared.fault.NameFault.TheVariants.{BadKind}
-use Rattle.vocabulary.specs.Naming.{Turn, accepted, refused}
+use Rattle.refusals.specs.Turns.{Turn, accepted, refused}
 use Rattle.terms.specs.declared.fault.ItemFault.TheVariants as Item'
 use Rattle.book.specs.declared.fault.BookFault.{BookFault}
 use Rattle.book.specs.declared.fault.BookFault.TheVariants.{Item, Name, LeftOver}
@@ -14,14 +14,14 @@ use Rattle.records.specs.Stops.{Stop}
 
 -- a record's turn: its answer says only whether it was taken
 abbrev pub Taking : Type 0 → Type 0
-Taking F = Turn Contents (Unit {0}) F
+Taking F = Turn Contents (Result (Unit {0}) F)
 
 -- an answer without its value
 abbrev pub done : {A F : Type 0} → Result A F → Result (Unit {0}) F
 done (Ok x) = Ok tt
 done (Err f) = Err f
 
-abbrev pub taken_as : {A F G : Type 0} → (F → G) → Turn Contents A F → Taking G
+abbrev pub taken_as : {A F G : Type 0} → (F → G) → Turn Contents (Result A F) → Taking G
 taken_as up t = record { state = t.state; answer = done (raise up t.answer) }
 
 -- a name: its kind byte, then its label
@@ -51,7 +51,7 @@ record_turn b e =
     (taken_as (λ f. f) (filing_call b e.kind e.body)))
 
 abbrev pub Loaded : Type 0
-Loaded = Turn Contents ℕ Stop
+Loaded = Turn Contents (Result ℕ Stop)
 
 -- a record that was taken is followed by the rest; at a fault loading stops, and what earlier records did stays
 abbrev pub after_turn : (Contents → ℕ → ℕ → Loaded) → ℕ → ℕ → ℕ → Contents → Result (Unit {0}) FileFault → Loaded

@@ -1,6 +1,6 @@
 -- What a step of loading and a whole loading leave.
 use Rattle.std.specs.Prelude.{◌≡◌, ℕ, ◌+◌, ◌≤◌, length, IfOk, IfErr, Ok, Err, Result}
-use Rattle.vocabulary.specs.Naming.{refused}
+use Rattle.refusals.specs.Turns.{refused}
 use Rattle.book.specs.declared.book.Draft.{Draft}
 use Rattle.book.specs.declared.fault.FileFault.{FileFault}
 use Rattle.book.specs.Contents.{Contents}

@@ -1,6 +1,7 @@
 -- A refused loading, and its number, layer and place.
 use Rattle.std.specs.Prelude.{ℕ, Result}
-use Rattle.vocabulary.specs.declared.refusal.Refusal.{Refusal}
+use Rattle.refusals.specs.declared.refusal.Refusal.{Refusal}
+use Rattle.refusals.specs.Refusals.{refusal_at}
 use Rattle.book.specs.declared.fault.FileFault.{FileFault}
 use Rattle.book.specs.Refusals.{file_refusal}
 use Rattle.book.specs.Calls.{raise}
@@ -17,11 +18,7 @@ abbrev pub stop_of : LoadFault → Stop
 stop_of f = record { at = f.offset; fault = f.fault; taken = f.taken }
 
 abbrev pub load_refusal : Stop → Refusal
-load_refusal s = record {
-  reason = (file_refusal s.fault).reason;
-  layer = (file_refusal s.fault).layer;
-  place = place_in s.at s.fault;
-}
+load_refusal s = refusal_at (file_refusal s.fault).reason (place_in s.at s.fault)
 
 abbrev pub told : {T : Type 0} → Result T LoadFault → Result T Stop
 told r = raise stop_of r

@@ -1,5 +1,6 @@
 ghost use Rattle.std.specs.Prelude.{◌≡◌, length};
-ghost use Rattle.book.specs.Calls.{Gives, contents};
+ghost use Rattle.refusals.specs.Turns.{Gives};
+ghost use Rattle.book.specs.Calls.{contents};
 ghost use Rattle.records.specs.Loading.{name_record, seed_record, record_turn};
 ghost use Rattle.records.specs.Reading.{entry_of};
 
@@ -11,7 +12,7 @@ use vocabulary::{NameFault, NameId};
 
 // Makes the name of a record: its kind byte, then its label.
 fn take_name(draft: &mut Draft, body: &[u8]) -> Result<(), BookFault>
-    ensures { Gives draft.new.book result (name_record (contents draft.old.book) body.now) }
+    ensures { Gives (contents draft.new.book) result (name_record (contents draft.old.book) body.now) }
 {
     let [kind, label @ ..] = body else {
         return Err(BookFault::Name(NameFault::BadKind));
@@ -22,7 +23,7 @@ fn take_name(draft: &mut Draft, body: &[u8]) -> Result<(), BookFault>
 
 // Seeds the name whose number is the body.
 fn take_seed(draft: &mut Draft, body: &[u8]) -> Result<(), BookFault>
-    ensures { Gives draft.new.book result (seed_record (contents draft.old.book) body.now) }
+    ensures { Gives (contents draft.new.book) result (seed_record (contents draft.old.book) body.now) }
 {
     let [low, high, rest @ ..] = body else {
         return Err(BookFault::Item(ItemFault::CutShort(0)));
@@ -39,7 +40,7 @@ fn take_seed(draft: &mut Draft, body: &[u8]) -> Result<(), BookFault>
 
 // Takes a record as its naming, filing or seeding. A body of more than 512 bytes is not looked into.
 pub(crate) fn take(draft: &mut Draft, entry: Record<'_>) -> Result<(), FileFault>
-    ensures { Gives draft.new.book result (record_turn (contents draft.old.book) (entry_of entry.entry)) }
+    ensures { Gives (contents draft.new.book) result (record_turn (contents draft.old.book) (entry_of entry.entry)) }
 {
     let kind = RecordKind::try_from(entry.kind).map_err(|_| FileFault::UnknownKind)?;
     if entry.body.len() > LONGEST_BODY {

@@ -7,7 +7,8 @@ use Rattle.vocabulary.specs.declared.name.NameId.{NameId}
 use Rattle.vocabulary.specs.Kinds.{kind_of}
 use Rattle.std.specs.Option.{ok_or}
 use Rattle.vocabulary.specs.Entities.{Entity, reseed, kinding, labelling, held}
-use Rattle.vocabulary.specs.Naming.{Turn, accepted, refused, fresh, naming}
+use Rattle.refusals.specs.Turns.{Turn, accepted, refused}
+use Rattle.vocabulary.specs.Naming.{fresh, naming}
 use Rattle.vocabulary.proofs.Kept.{labelling_same}
 use Rattle.vocabulary.proofs.Turns.{naming_bad_kind, naming_bad_label, naming_taken, naming_full, naming_done}
 use Rattle.terms.specs.declared.«axiom».AxiomKind.{AxiomKind}
@@ -39,8 +40,8 @@ pub data Naming (b : Contents) (code : ℕ) (label : List ℕ) : Type 0 where
 
 module _ (b : Contents) (code : ℕ) (label : List ℕ) where
   -- what naming does to the names is what the call does to the book
-  lifted : {t : Turn (List Entity) NameId NameFault} → naming b.names code label ≡ t → naming_call b code label ≡ record { state = record { names = t.state; axioms = b.axioms }; answer = raise Name t.answer }
-  lifted e = ap (λ (t : Turn (List Entity) NameId NameFault). record { state = record { names = t.state; axioms = b.axioms }; answer = raise Name t.answer }) e
+  lifted : {t : Turn (List Entity) (Result NameId NameFault)} → naming b.names code label ≡ t → naming_call b code label ≡ record { state = record { names = t.state; axioms = b.axioms }; answer = raise Name t.answer }
+  lifted e = ap (λ (t : Turn (List Entity) (Result NameId NameFault)). record { state = record { names = t.state; axioms = b.axioms }; answer = raise Name t.answer }) e
 
   -- the kind that the byte stands for, as naming looks at it
   offered : {o : Option Kind} → kind_of code ≡ o → ok_or o BadKind ≡ kinding code
@@ -69,11 +70,11 @@ pub data Filing (b : Contents) (code : ℕ) (body : List ℕ) : Type 0 where
 
 module _ (b : Contents) (code : ℕ) (body : List ℕ) where
   -- an axiom of a kind that there is, with a body of at most 512 bytes
-  opened : (kind : AxiomKind) {t : Turn Contents AxiomId BookFault} → axiom_kind_of code ≡ Some kind → ltb 512 (length body) ≡ false → admission b kind body ≡ t → filing_call b code body ≡ record { state = t.state; answer = raise File'.Book t.answer }
+  opened : (kind : AxiomKind) {t : Turn Contents (Result AxiomId BookFault)} → axiom_kind_of code ≡ Some kind → ltb 512 (length body) ≡ false → admission b kind body ≡ t → filing_call b code body ≡ record { state = t.state; answer = raise File'.Book t.answer }
   opened kind e s a =
       ap (λ o. filing_of b o body) e ∙
       ap (λ c. cond c (refused b File'.BodyTooLong) (record { state = (admission b kind body).state; answer = raise File'.Book (admission b kind body).answer })) s ∙
-      ap (λ (t : Turn Contents AxiomId BookFault). record { state = t.state; answer = raise File'.Book t.answer }) a
+      ap (λ (t : Turn Contents (Result AxiomId BookFault)). record { state = t.state; answer = raise File'.Book t.answer }) a
 
   -- items that were read: something stands against the axiom, or it is put at the end
   enters : (kind : AxiomKind) (r : Rule) (end : ℕ) (o : Option BookFault) → axiom_kind_of code ≡ Some kind → ltb 512 (length body) ≡ false → read_axiom body b.names kind ≡ got r end → obstacle_of (length b.axioms) (bodies_length b.axioms) (length body) end ≡ o → Filing b code body

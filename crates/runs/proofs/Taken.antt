@@ -1,6 +1,6 @@
 -- Loading: each record that was taken did what its call does.
 use Rattle.std.proofs.Common.{◌≡◌, ℕ, zero, suc, ◌+◌, ◌*◌, Bool, true, false, cond, eqb, ltb, leb, List, [], ◌∷◌, length, get_or, take, drop, Ok, Err, Result, sym, refl, subst, arith}
-use Rattle.vocabulary.specs.Naming.{accepted, refused}
+use Rattle.refusals.specs.Turns.{accepted, refused}
 use Rattle.terms.specs.declared.fault.ItemFault.TheVariants.{WrongName}
 use Rattle.book.specs.declared.fault.BookFault.{BookFault}
 use Rattle.book.specs.declared.fault.BookFault.TheVariants.{Item, LeftOver}

@@ -4,7 +4,7 @@ use Rattle.vocabulary.specs.declared.kind.Kind.{Kind}
 use Rattle.vocabulary.specs.declared.name.NameId.{NameId}
 use Rattle.vocabulary.specs.Kinds.{kind_of}
 use Rattle.vocabulary.specs.Entities.{reseed}
-use Rattle.vocabulary.specs.Naming.{Turn}
+use Rattle.refusals.specs.Turns.{Turn}
 use Rattle.terms.specs.declared.«axiom».AxiomKind.{AxiomKind}
 use Rattle.terms.specs.Codes.{axiom_kind_of}
 use Rattle.terms.specs.Forms.{Rule}
@@ -116,7 +116,7 @@ module _ (past : List Event) (late : (n : ℕ) → length (names_made past) ≤ 
   names_there : (code : ℕ) (label : List ℕ) → Tells (after_naming past code label) (with_book past (naming_call (book_after past) code label).state)
   names_there code label = go (naming_way (book_after past) code label)
     where
-      Says : Option Kind → Turn Contents NameId BookFault → Type 0
+      Says : Option Kind → Turn Contents (Result NameId BookFault) → Type 0
       Says o turn = Tells (if_accepted past turn.answer (λ id. if_known past o (λ kind. named id.0 kind label ∷ past))) (with_book past turn.state)
 
       go : Naming (book_after past) code label → Says (kind_of code) (naming_call (book_after past) code label)
@@ -126,7 +126,7 @@ module _ (past : List Event) (late : (n : ℕ) → length (names_made past) ≤ 
   files_there : (code : ℕ) (body : List ℕ) → Tells (after_filing past code body) (with_book past (filing_call (book_after past) code body).state)
   files_there code body = go (filing_way (book_after past) code body)
     where
-      Says : Option AxiomKind → Turn Contents AxiomId FileFault → Type 0
+      Says : Option AxiomKind → Turn Contents (Result AxiomId FileFault) → Type 0
       Says o turn = Tells (if_accepted past turn.answer (λ id. if_known past o (λ kind. if_read past (read_axiom body (book_after past).names kind) (λ r. filed id.0 r ∷ past)))) (with_book past turn.state)
 
       go : Filing (book_after past) code body → Says (axiom_kind_of code) (filing_call (book_after past) code body)
@@ -139,7 +139,7 @@ module _ (past : List Event) (late : (n : ℕ) → length (names_made past) ≤ 
   seeds_there : (e : Event) (n : ℕ) (on : Bool) → (n < length (book_after past).names → Tells (e ∷ past) (with_book past (record { names = reseed (book_after past).names n on; axioms = (book_after past).axioms }))) → Tells (if_accepted past (seeding_call (book_after past) n on).answer (λ x. e ∷ past)) (with_book past (seeding_call (book_after past) n on).state)
   seeds_there e n on told = go (seeding_way (book_after past) n on)
     where
-      Says : Turn Contents (Unit {0}) BookFault → Type 0
+      Says : Turn Contents (Result (Unit {0}) BookFault) → Type 0
       Says turn = Tells (if_accepted past turn.answer (λ x. e ∷ past)) (with_book past turn.state)
 
       go : Seeding (book_after past) n on → Says (seeding_call (book_after past) n on)
@@ -149,7 +149,7 @@ module _ (past : List Event) (late : (n : ℕ) → length (names_made past) ≤ 
   forces_there : (e : Event) (k : ℕ) (on : Bool) → Tells (e ∷ past) (with_book past (record { names = (book_after past).names; axioms = reforce (book_after past).axioms k on })) → Tells (if_accepted past (forcing_call (book_after past) k on).answer (λ x. e ∷ past)) (with_book past (forcing_call (book_after past) k on).state)
   forces_there e k on told = go (forcing_way (book_after past) k on)
     where
-      Says : Turn Contents (Unit {0}) BookFault → Type 0
+      Says : Turn Contents (Result (Unit {0}) BookFault) → Type 0
       Says turn = Tells (if_accepted past turn.answer (λ x. e ∷ past)) (with_book past turn.state)
 
       go : Forcing (book_after past) k on → Says (forcing_call (book_after past) k on)

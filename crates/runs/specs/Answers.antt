@@ -1,6 +1,6 @@
 -- The text of an outcome: the answer to a call in a script.
 use Rattle.std.specs.Prelude.{ℕ, List, ◌++◌, codes, decimal, Some, None, Ok, Err, Option, Result}
-use Rattle.vocabulary.specs.Refusals.{refusal_text}
+use Rattle.refusals.specs.Refusals.{refusal_text}
 use Rattle.runs.specs.declared.outcome.CallFault.{CallFault}
 use Rattle.runs.specs.declared.outcome.CallFault.TheVariants.{Refused, LoadRefused, NotAllowed}
 

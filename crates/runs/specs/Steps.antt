@@ -1,6 +1,6 @@
 -- Calls as data, and what a list of them does to a book that is a draft or frozen.
 use Rattle.std.specs.Prelude.{ℕ, Bool, true, false, List, Some, None, Ok, Err, vec_items, Option, Result, fold}
-use Rattle.vocabulary.specs.Naming.{Turn}
+use Rattle.refusals.specs.Turns.{Turn}
 use Rattle.book.specs.Contents.{Contents}
 use Rattle.book.specs.Calls.{contents, empty, naming_call, seeding_call, forcing_call, filing_call}
 use Rattle.book.specs.Refusals.{book_refusal, file_refusal}
@@ -59,7 +59,7 @@ answering ok err (Ok x) = Ok (ok x)
 answering ok err (Err f) = Err (err f)
 
 -- a call on a draft, which stays one
-abbrev pub drafted : {A F : Type 0} → (A → Option ℕ) → (F → CallFault) → Turn Contents A F → Performed
+abbrev pub drafted : {A F : Type 0} → (A → Option ℕ) → (F → CallFault) → Turn Contents (Result A F) → Performed
 drafted ok err t = record { after = record { frozen = false; book = t.state }; answer = answering ok err t.answer }
 
 -- a draft has every call but reopening

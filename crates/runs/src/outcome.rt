@@ -8,7 +8,7 @@ use book::{BookFault, FileFault};
 use records::LoadFault;
 use std::error::Error;
 use std::fmt;
-use vocabulary::Refusal;
+use refusals::Refusal;
 
 // Why a call did not do what it asks for.
 #[derive(Clone, Copy, Debug, PartialEq, Eq, Hash)]

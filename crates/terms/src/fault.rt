@@ -1,10 +1,10 @@
 ghost use Rattle.std.specs.Prelude.{◌≡◌, Some};
-ghost use Rattle.vocabulary.specs.Refusals.{reason_text};
+ghost use Rattle.refusals.specs.Refusals.{reason_text};
 ghost use Rattle.terms.specs.Refusals.{item_refusal};
 
 use std::error::Error;
 use std::fmt;
-use vocabulary::{Layer, Reason, Refusal};
+use refusals::{Reason, Refusal};
 
 // The first faulty item of a body, with its offset there. An item is a code, a count, a direction byte or a
 // name number.
@@ -38,7 +38,6 @@ impl ItemFault {
         };
         Refusal {
             reason,
-            layer: Layer::Item,
             place,
         }
     }

@@ -5,7 +5,8 @@ use Rattle.vocabulary.specs.declared.kind.Kind.{Kind}
 use Rattle.vocabulary.specs.declared.fault.NameFault.{NameFault}
 use Rattle.vocabulary.specs.declared.fault.NameFault.TheVariants.{LabelTaken, TableFull}
 use Rattle.vocabulary.specs.Entities.{Entity, kinding, labelling, held}
-use Rattle.vocabulary.specs.Naming.{naming, adding, accepted, refused, fresh}
+use Rattle.refusals.specs.Turns.{accepted, refused}
+use Rattle.vocabulary.specs.Naming.{naming, adding, fresh}
 
 module _ (es : List Entity) (b : ℕ) (l : List ℕ) where
   pub naming_bad_kind : (f : NameFault) → Err f ≡ kinding b → naming es b l ≡ refused es f

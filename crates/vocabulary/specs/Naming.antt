@@ -1,5 +1,6 @@
 -- What naming, seeding and unseeding do to the names of a book, and what they answer.
-use Rattle.std.specs.Prelude.{◌≡◌, ℕ, false, cond, List, [], ◌∷◌, ◌++◌, map, length, Ok, Err, Result, nat_le}
+use Rattle.std.specs.Prelude.{ℕ, false, cond, List, [], ◌∷◌, ◌++◌, map, length, Ok, Err, Result, nat_le}
+use Rattle.refusals.specs.Turns.{Turn, accepted, refused}
 use Rattle.vocabulary.specs.declared.kind.Kind.{Kind}
 use Rattle.vocabulary.specs.declared.name.NameId.{NameId}
 use Rattle.vocabulary.specs.declared.fault.NameFault.{NameFault}
@@ -10,40 +11,23 @@ use Rattle.vocabulary.specs.Entities.{Entity, entity, held, kinding, labelling}
 abbrev pub entities : Vocabulary → List Entity
 entities v = map entity v.names
 
--- what one call does: the state it leaves, and its answer
-pub record Turn (S A F : Type 0) : Type 0 where
-  pub state : S
-  pub answer : Result A F
-
-abbrev pub accepted : {S A F : Type 0} → S → A → Turn S A F
-accepted s a = record { state = s; answer = Ok a }
-
--- a refused call changes nothing
-abbrev pub refused : {S A F : Type 0} → S → F → Turn S A F
-refused s f = record { state = s; answer = Err f }
-
 abbrev pub fresh : Kind → List ℕ → Entity
 fresh k l = record { kind = k; label = l; seeded = false }
 
 -- a name of a kind that there is, with a label that is one: it is refused where it is held already, then where
 -- there are 1,024 names; else it stands at the end, is numbered by how many there were, and is not seeded
-abbrev pub adding : List Entity → Kind → List ℕ → Turn (List Entity) NameId NameFault
+abbrev pub adding : List Entity → Kind → List ℕ → Turn (List Entity) (Result NameId NameFault)
 adding es k l =
     cond (held k l es) (refused es LabelTaken)
     (cond (nat_le 1024 (length es)) (refused es TableFull)
     (accepted (es ++ fresh k l ∷ []) (record { 0 = length es })))
 
 -- the kind is looked at first, then the label, then the names that there are
-abbrev pub naming_with : List Entity → Result Kind NameFault → Result (List ℕ) NameFault → Turn (List Entity) NameId NameFault
+abbrev pub naming_with : List Entity → Result Kind NameFault → Result (List ℕ) NameFault → Turn (List Entity) (Result NameId NameFault)
 naming_with es (Err f) l = refused es f
 naming_with es (Ok k) (Err f) = refused es f
 naming_with es (Ok k) (Ok l) = adding es k l
 
 -- naming with a kind byte and a label
-unfoldable pub naming : List Entity → ℕ → List ℕ → Turn (List Entity) NameId NameFault
+unfoldable pub naming : List Entity → ℕ → List ℕ → Turn (List Entity) (Result NameId NameFault)
 naming es b l = naming_with es (kinding b) (labelling l)
-
--- the table holds what the turn leaves, and r is its answer
-pub record Gives (v : Vocabulary) (r : Result NameId NameFault) (turn : Turn (List Entity) NameId NameFault) : Type 0 where
-  pub state : entities v ≡ turn.state
-  pub answer : r ≡ turn.answer

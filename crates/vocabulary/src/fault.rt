@@ -1,7 +1,8 @@
 ghost use Rattle.std.specs.Prelude.{◌≡◌, Some};
-ghost use Rattle.vocabulary.specs.Refusals.{name_refusal, reason_text};
+ghost use Rattle.refusals.specs.Refusals.{reason_text};
+ghost use Rattle.vocabulary.specs.Refusals.{name_refusal};
 
-use crate::refusal::{Layer, Reason, Refusal};
+use refusals::{Reason, Refusal};
 use std::error::Error;
 use std::fmt;
 
@@ -33,7 +34,6 @@ impl NameFault {
         };
         Refusal {
             reason,
-            layer: Layer::Book,
             place: 0,
         }
     }

@@ -5,12 +5,10 @@ mod fault;
 mod kind;
 mod label;
 mod name;
-mod refusal;
 mod table;
 
 pub use fault::NameFault;
 pub use kind::Kind;
 pub use label::Label;
 pub use name::{Name, NameId};
-pub use refusal::{Layer, Reason, Refusal};
 pub use table::{MOST_NAMES, NoSuchName, Vocabulary};

@@ -33,7 +33,8 @@ fn any_named(names: &[Name], kind: Kind, label: &[u8]) -> bool
 }
 
 impl Vocabulary {
-    ghost use Rattle.vocabulary.specs.Naming.{entities, naming, Gives};
+    ghost use Rattle.refusals.specs.Turns.{Gives};
+    ghost use Rattle.vocabulary.specs.Naming.{entities, naming};
 
     // An empty table, with room for every name that it will ever hold.
     pub fn new(heap: Global) -> Result<Vocabulary, AllocError>
@@ -84,7 +85,7 @@ impl Vocabulary {
     // Makes a name of a kind byte and a label; it is not seeded. Any byte may be passed, since refusing it is this call's
     // promise.
     pub fn name(&mut self, kind: u8, label: &[u8]) -> Result<NameId, NameFault>
-        ensures { Gives self.new result (naming (entities self.old) kind label.now) }
+        ensures { Gives (entities self.new) result (naming (entities self.old) kind label.now) }
     {
         let kind = Kind::try_from(kind)?;
         let checked = Label::try_from(label)?;

@@ -1,7 +1,7 @@
 -- The bytes of a part, taken out of the buffer that they were written to.
 use Rattle.std.proofs.Common.{◌≡◌, ℕ, Bool, true, false, cond, List, ◌++◌, length, take, Some, None, Ok, Option, Result, sym, ap, ap₂, ◌∙◌, arith}
 use Rattle.std.proofs.Math.Seq.{take-append_seam}
-use Rattle.vocabulary.specs.Naming.{accepted, refused}
+use Rattle.refusals.specs.Turns.{accepted, refused}
 use Rattle.book.specs.Contents.{Contents}
 use Rattle.extraction.specs.declared.marking.MarkFault.{MarkFault}
 use Rattle.extraction.specs.declared.marking.MarkFault.TheVariants.{EmptySignature, ShortBuffer}

@@ -9,7 +9,7 @@ use scripts::ScriptFault;
 use std::alloc::{AllocError, AllocFailed};
 use std::io;
 use thiserror::Error;
-use vocabulary::Refusal;
+use refusals::Refusal;
 
 #[derive(Debug, Drop, Error)]
 pub enum Failure {

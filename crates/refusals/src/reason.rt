@@ -1,38 +1,10 @@
 ghost use Rattle.std.specs.Prelude.{◌≡◌, Some};
-ghost use Rattle.vocabulary.specs.Refusals.{layer_number, layer_text, reason_number, reason_text, refusal_text};
+ghost use Rattle.refusals.specs.Refusals.{reason_number, reason_text};
 
+use crate::layer::Layer;
 use std::fmt;
 
-// Which part of a file or a call a refusal is about: the file's records, the book, or one item of a body.
-#[derive(Clone, Copy, Debug, PartialEq, Eq, Hash)]
-pub enum Layer {
-    File = 1,
-    Book,
-    Item,
-}
-
-// The layer's number, 1 to 3.
-impl From<Layer> for u8 {
-    ghost from_gives = { λ layer number. number ≡ layer_number layer };
-
-    fn from(layer: Layer) -> u8 {
-        layer as u8
-    }
-}
-
-impl fmt::Display for Layer {
-    ghost output = { λ layer. Some (layer_text layer) };
-
-    fn fmt<W: fmt::Write>(&self, f: &mut fmt::Formatter<W>) -> fmt::Result {
-        f.write_str(match self {
-            Layer::File => "file",
-            Layer::Book => "book",
-            Layer::Item => "item",
-        })
-    }
-}
-
-// Why something is refused, in the order of the numbers that the format gives them.
+/// Why something is refused, in the order of the numbers that the format gives the reasons, 1 to 21.
 #[derive(Clone, Copy, Debug, PartialEq, Eq, Hash)]
 pub enum Reason {
     NotEmpty = 1,
@@ -58,7 +30,7 @@ pub enum Reason {
     ShortBuffer,
 }
 
-// The number of a refusal, 1 to 21.
+/// The number of a reason, 1 to 21.
 impl From<Reason> for u8 {
     ghost from_gives = { λ reason number. number ≡ reason_number reason };
 
@@ -67,6 +39,23 @@ impl From<Reason> for u8 {
     }
 }
 
+impl Reason {
+    ghost use Rattle.refusals.specs.Refusals.{layer_of};
+
+    /// The layer of a refusal for this reason, which follows from the number: 1 to 4 are the file's, 10 to 15 an item's,
+    /// all others the book's.
+    pub fn layer(self) -> Layer
+        ensures { result ≡ layer_of self }
+    {
+        match u8::from(self) {
+            1..=4 => Layer::File,
+            10..=15 => Layer::Item,
+            _ => Layer::Book,
+        }
+    }
+}
+
+/// The reason in words.
 impl fmt::Display for Reason {
     ghost output = { λ reason. Some (reason_text reason) };
 
@@ -95,24 +84,5 @@ impl fmt::Display for Reason {
             Reason::EmptySignature => "no name is seeded, so there is nothing to mark for",
             Reason::ShortBuffer => "a buffer is too short",
         })
-    }
-}
-
-// A refusal as it is told: its reason, its layer, and the byte where the fault lies.
-#[derive(Clone, Copy, Debug, PartialEq, Eq, Hash)]
-pub struct Refusal {
-    pub reason: Reason,
-    pub layer: Layer,
-    pub place: usize,
-}
-
-// Number, layer and place.
-impl fmt::Display for Refusal {
-    ghost output = { λ r. Some (refusal_text r) };
-
-    fn fmt<W: fmt::Write>(&self, f: &mut fmt::Formatter<W>) -> fmt::Result {
-        let number = u8::from(self.reason);
-        let layer = u8::from(self.layer);
-        write!(f, "{number} {layer} {place}", place = self.place)
     }
 }
