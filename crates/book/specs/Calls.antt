@@ -1,5 +1,5 @@
 -- What each call does to a book's contents, and what it answers. A refused call changes nothing.
-use Rattle.std.specs.Prelude.{◌≡◌, ℕ, ◌+◌, Bool, true, cond, ◌&&◌, List, [], ◌∷◌, ◌++◌, map, length, Some, None, Ok, Err, Option, Result, ◌==◌, nat_le, nat_lt}
+use Rattle.std.specs.Prelude.{ℕ, ◌+◌, Bool, true, cond, ◌&&◌, List, [], ◌∷◌, ◌++◌, map, length, Some, None, Ok, Err, Option, Result, ◌==◌, nat_le, nat_lt}
 use Rattle.vocabulary.specs.declared.name.NameId.{NameId}
 use Rattle.vocabulary.specs.Entities.{reseed}
 use Rattle.refusals.specs.Turns.{Turn, accepted, refused}

@@ -4,7 +4,7 @@ ghost use Rattle.vocabulary.specs.Naming.{entities};
 ghost use Rattle.terms.specs.Tables.{nodes_of};
 ghost use Rattle.book.specs.Contents.{filing, bodies_length, sound, Firm};
 
-use crate::fault::{BookFault, FileFault};
+use crate::fault::BookFault;
 use bounded::Bounded;
 use codec::read_axiom;
 use std::alloc::{AllocError, Global};
@@ -51,7 +51,7 @@ impl Book {
     ghost use Rattle.book.specs.Calls.{contents, empty, blank, naming_call, seeding_call, forcing_call, admission, obstacle_of};
 
     // A book with nothing in it. All memory that it will ever need is claimed here.
-    fn new(heap: Global) -> Result<Book, AllocError>
+    pub(crate) fn new(heap: Global) -> Result<Book, AllocError>
         ensures { IfOk result (λ b. contents b ≡ empty) }
     {
         Ok(Book {
@@ -89,21 +89,21 @@ impl Book {
     }
 
     // Makes a name of a kind byte and a label, and answers its number; the byte is any, as `Draft::name` tells.
-    fn name(&mut self, kind: u8, label: &[u8]) -> Result<NameId, BookFault>
+    pub(crate) fn name(&mut self, kind: u8, label: &[u8]) -> Result<NameId, BookFault>
         ensures { Gives (contents self.new) result (naming_call (contents self.old) kind label.now) }
     {
         Ok(self.names.name(kind, label)?)
     }
 
     // Puts a name into the signature or takes it out.
-    fn set_seeded(&mut self, id: NameId, on: bool) -> Result<(), BookFault>
+    pub(crate) fn set_seeded(&mut self, id: NameId, on: bool) -> Result<(), BookFault>
         ensures { Gives (contents self.new) result (seeding_call (contents self.old) id.0 on) }
     {
         Ok(self.names.set_seeded(id, on)?)
     }
 
     // Puts an axiom in force, or lays it aside.
-    fn set_in_force(&mut self, id: AxiomId, on: bool) -> Result<(), BookFault>
+    pub(crate) fn set_in_force(&mut self, id: AxiomId, on: bool) -> Result<(), BookFault>
         ensures { Gives (contents self.new) result (forcing_call (contents self.old) id.0 on) }
     {
         let filed = self
@@ -133,7 +133,7 @@ impl Book {
     }
 
     // Files an axiom of a kind.
-    fn admit(&mut self, kind: AxiomKind, body: &[u8]) -> Result<AxiomId, BookFault>
+    pub(crate) fn admit(&mut self, kind: AxiomKind, body: &[u8]) -> Result<AxiomId, BookFault>
         requires { length body.now ≤ 512 }
         ensures { Gives (contents self.new) result (admission (contents self.old) kind body.now) }
     {
@@ -151,118 +151,5 @@ impl Book {
         let number = self.axioms.push(filed).unwrap();
         self.bytes += body.len();
         Ok(AxiomId(number as u16))
-    }
-}
-
-// A draft: a book that may be changed.
-#[derive(Drop)]
-pub struct Draft {
-    book: Book,
-}
-
-impl Draft {
-    ghost use Rattle.refusals.specs.Turns.{Gives};
-    ghost use Rattle.book.specs.Calls.{contents, empty, naming_call, seeding_call, forcing_call, filing_call, filing_of};
-
-    // An empty draft. All memory that the book will ever need is claimed here.
-    pub fn open(heap: Global) -> Result<Draft, AllocError>
-        ensures { IfOk result (λ d. contents d.book ≡ empty) }
-    {
-        Ok(Draft {
-            book: Book::new(heap)?,
-        })
-    }
-
-    // The book as it stands.
-    pub fn book(&self) -> &Book
-        ensures { result.now ≡ self.now.book }
-    {
-        &self.book
-    }
-
-    // Ends the drafting.
-    pub fn freeze(self) -> Frozen
-        ensures { result.book ≡ self.book }
-    {
-        let Draft { book } = self;
-        Frozen { book }
-    }
-
-    // Makes a name of a kind byte and a label, and answers its number. Any byte may be passed, since refusing it is this
-    // call's promise.
-    pub fn name(&mut self, kind: u8, label: &[u8]) -> Result<NameId, BookFault>
-        ensures { Gives (contents self.new.book) result (naming_call (contents self.old.book) kind label.now) }
-    {
-        self.book.name(kind, label)
-    }
-
-    // Puts a name into the signature. This and the three calls after it are named apart, since a list of calls tells them
-    // apart; what each pair has in common is the function that takes the flag.
-    pub fn seed(&mut self, id: NameId) -> Result<(), BookFault>
-        ensures { Gives (contents self.new.book) result (seeding_call (contents self.old.book) id.0 true) }
-    {
-        self.book.set_seeded(id, true)
-    }
-
-    // Takes a name out of the signature.
-    pub fn unseed(&mut self, id: NameId) -> Result<(), BookFault>
-        ensures { Gives (contents self.new.book) result (seeding_call (contents self.old.book) id.0 false) }
-    {
-        self.book.set_seeded(id, false)
-    }
-
-    // Lays an axiom aside: it is in force no more.
-    pub fn lay_aside(&mut self, id: AxiomId) -> Result<(), BookFault>
-        ensures { Gives (contents self.new.book) result (forcing_call (contents self.old.book) id.0 false) }
-    {
-        self.book.set_in_force(id, false)
-    }
-
-    // Puts an axiom that was laid aside in force again.
-    pub fn restore(&mut self, id: AxiomId) -> Result<(), BookFault>
-        ensures { Gives (contents self.new.book) result (forcing_call (contents self.old.book) id.0 true) }
-    {
-        self.book.set_in_force(id, true)
-    }
-
-    // Files an axiom of a record kind, 16 to 22, and answers its number; it is in force. Any number may be passed, since
-    // refusing it is this call's promise.
-    pub fn file(&mut self, kind: u16, body: &[u8]) -> Result<AxiomId, FileFault>
-        ensures { Gives (contents self.new.book) result (filing_call (contents self.old.book) kind body.now) }
-    {
-        let kind = AxiomKind::try_from(kind).map_err(|_| FileFault::UnknownKind)?;
-        self.file_axiom(kind, body)
-    }
-
-    // Files an axiom of a kind, and answers its number; it is in force.
-    pub fn file_axiom(&mut self, kind: AxiomKind, body: &[u8]) -> Result<AxiomId, FileFault>
-        ensures { Gives (contents self.new.book) result (filing_of (contents self.old.book) (Some kind) body.now) }
-    {
-        if body.len() > LONGEST_BODY {
-            return Err(FileFault::BodyTooLong);
-        }
-        Ok(self.book.admit(kind, body)?)
-    }
-}
-
-// A frozen book: it stays as it is until it is reopened.
-#[derive(Drop)]
-pub struct Frozen {
-    book: Book,
-}
-
-impl Frozen {
-    // The book. A draft and a frozen book each lend theirs, and no trait does it for both, since nothing takes either.
-    pub fn book(&self) -> &Book
-        ensures { result.now ≡ self.now.book }
-    {
-        &self.book
-    }
-
-    pub fn reopen(self) -> Draft
-        ensures { result.book ≡ self.book }
-    {
-        let Frozen { book } = self;
-        Draft { book }
     }
 }

@@ -5,10 +5,10 @@ ghost use Rattle.book.specs.declared.fault.BookFault.TheVariants.{Item as OfItem
 ghost use Rattle.book.specs.declared.fault.FileFault.TheVariants.{Book as OfBook};
 ghost use Rattle.terms.specs.declared.fault.ItemFault.TheVariants.{WrongName as OfNumber};
 
+use refusals::{Reason, Refusal};
 use std::error::Error;
 use std::fmt;
 use terms::ItemFault;
-use refusals::{Reason, Refusal};
 use vocabulary::{NameFault, NoSuchName};
 
 // Why a book refuses a call.
@@ -65,10 +65,7 @@ impl BookFault {
             BookFault::BytesFull => (Reason::BytesFull, 0),
             BookFault::NoSuchAxiom => (Reason::NoSuchAxiom, 0),
         };
-        Refusal {
-            reason,
-            place,
-        }
+        Refusal { reason, place }
     }
 }
 
@@ -120,10 +117,7 @@ impl FileFault {
             FileFault::BodyTooLong => Reason::BodyTooLong,
             FileFault::Book(fault) => return fault.refusal(),
         };
-        Refusal {
-            reason,
-            place: 0,
-        }
+        Refusal { reason, place: 0 }
     }
 }
 

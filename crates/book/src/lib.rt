@@ -2,7 +2,11 @@
 #![tactic(auto)]
 
 mod book;
+mod draft;
 mod fault;
+mod frozen;
 
-pub use book::{AxiomId, Book, Draft, Filed, Frozen, LONGEST_BODY, MOST_AXIOMS};
+pub use book::{AxiomId, Book, Filed, LONGEST_BODY, MOST_AXIOMS};
+pub use draft::Draft;
 pub use fault::{BookFault, FileFault};
+pub use frozen::{AtRest, Frozen};

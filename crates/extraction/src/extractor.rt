@@ -7,7 +7,7 @@ ghost use Rattle.extraction.specs.Extracts.{Holding};
 ghost use Rattle.extraction.specs.Sets.{Marks, Sound};
 
 use crate::tables::Tables;
-use book::Book;
+use book::AtRest;
 
 // An extractor chooses among the axioms in force of a book those that it keeps. What it means is settled by the book's
 // contents: the kept set, how it repairs worlds, and how many rounds it counts. A pile is an extractor with stages on top
@@ -25,9 +25,9 @@ pub trait Extractor {
     ghost stages: { Self → Contents → Type 0 };
 
     // Answers the kept set and the closed signature in the tables, and the rounds. It never refuses.
-    fn extract(&self, book: &Book, tables: &mut Tables) -> u32
-        ensures holds { Holding (contents book.now) (kept self.now (contents book.now)) tables.new }
-        ensures counts { result ≡ rounds self.now (contents book.now) };
+    fn extract(&self, rest: &AtRest, tables: &mut Tables) -> u32
+        ensures holds { Holding (contents rest.now) (kept self.now (contents rest.now)) tables.new }
+        ensures counts { result ≡ rounds self.now (contents rest.now) };
 
     ghost means: { (e : Self) (b : Contents) → Sound b → Meaning b (kept e b) (repair e b) (rounds e b) };
 

@@ -12,7 +12,7 @@ ghost use Rattle.extraction.specs.Tallying.{ListsSeeded, Tallies};
 
 use crate::extractor::Extractor;
 use crate::tables::Tables;
-use book::{Book, Frozen};
+use book::{AtRest, Book};
 use std::error::Error;
 use std::fmt;
 use refusals::{Reason, Refusal};
@@ -116,16 +116,16 @@ fn tally(book: &Book, tables: &Tables, rounds: u32) -> Marking
 // closed signature, in another. The buffers are lent one by one, here and in the calls above: a struct around both would
 // have to promise at every step that it still holds the same two.
 pub fn mark<E: Extractor>(
-    frozen: &Frozen,
+    rest: &AtRest,
     pile: &E,
     axioms: &mut [u8],
     names: &mut [u8],
 ) -> Result<Marking, MarkFault>
-    ensures gives { MarksAs axioms.new names.new result (marking (contents frozen.now.book) (E.Extractor.kept pile.now (contents frozen.now.book)) (E.Extractor.rounds pile.now (contents frozen.now.book)) (record { axioms = axioms.old; names = names.old })) }
-    ensures means { Meaning (contents frozen.now.book) (E.Extractor.kept pile.now (contents frozen.now.book)) (E.Extractor.repair pile.now (contents frozen.now.book)) (E.Extractor.rounds pile.now (contents frozen.now.book)) }
-    ensures promises { E.Extractor.stages pile.now (contents frozen.now.book) }
+    ensures gives { MarksAs axioms.new names.new result (marking (contents rest.now) (E.Extractor.kept pile.now (contents rest.now)) (E.Extractor.rounds pile.now (contents rest.now)) (record { axioms = axioms.old; names = names.old })) }
+    ensures means { Meaning (contents rest.now) (E.Extractor.kept pile.now (contents rest.now)) (E.Extractor.repair pile.now (contents rest.now)) (E.Extractor.rounds pile.now (contents rest.now)) }
+    ensures promises { E.Extractor.stages pile.now (contents rest.now) }
 {
-    let book = frozen.book();
+    let book = rest.book();
     if is_unseeded(book) {
         return Err(MarkFault::EmptySignature);
     }
@@ -133,7 +133,7 @@ pub fn mark<E: Extractor>(
         return Err(MarkFault::ShortBuffer);
     }
     let mut tables = Tables::new();
-    let rounds = pile.extract(book, &mut tables);
-    tables.write(book, axioms, names);
+    let rounds = pile.extract(rest, &mut tables);
+    tables.write(rest, axioms, names);
     Ok(tally(book, &tables, rounds))
 }

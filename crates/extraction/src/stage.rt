@@ -5,7 +5,7 @@ ghost use Rattle.extraction.specs.Limits.{stage_laws};
 use crate::extractor::Extractor;
 use crate::rounds::rounds;
 use crate::tables::Tables;
-use book::Book;
+use book::AtRest;
 use locality::LocalityTest;
 
 // A stage: a locality test over any extractor. The axioms that the extractor below keeps are handed up to it; it marks
@@ -31,9 +31,9 @@ impl<T: LocalityTest, E: Extractor> Extractor for Stage<T, E> {
 
     ghost promises = { λ s b h. (stage_laws b _ _ (T.LocalityTest.keeps s.test) h _ (E.Extractor.means s.below b h).part _, E.Extractor.promises s.below b h) };
 
-    fn extract(&self, book: &Book, tables: &mut Tables) -> u32 {
-        let below = self.below.extract(book, tables);
+    fn extract(&self, rest: &AtRest, tables: &mut Tables) -> u32 {
+        let below = self.below.extract(rest, tables);
         tables.handed = tables.kept;
-        below.saturating_add(rounds(&self.test, book, tables))
+        below.saturating_add(rounds(&self.test, rest.book(), tables))
     }
 }

@@ -5,7 +5,7 @@ ghost use Rattle.extraction.specs.Listing.{set_of};
 ghost use Rattle.extraction.specs.Marking.{bit, overwritten};
 ghost use Rattle.extraction.specs.Sets.{axiom_count, name_count};
 
-use book::{Book, MOST_AXIOMS};
+use book::{AtRest, MOST_AXIOMS};
 use vocabulary::MOST_NAMES;
 
 // There is room for as many axioms as names.
@@ -61,10 +61,11 @@ impl Tables {
 
     // Writes 1 or 0 for each axiom of a book that was extracted from, whether it is kept, into one buffer, and for each
     // name, whether it is in the closed signature, into another, as far as they go.
-    pub fn write(&self, book: &Book, axioms: &mut [u8], names: &mut [u8])
-        ensures axioms { axioms.new ≡ overwritten (axiom_count (contents book.now)) (set_of self.now.kept) axioms.old }
-        ensures names { names.new ≡ overwritten (name_count (contents book.now)) (set_of self.now.closed) names.old }
+    pub fn write(&self, rest: &AtRest, axioms: &mut [u8], names: &mut [u8])
+        ensures axioms { axioms.new ≡ overwritten (axiom_count (contents rest.now)) (set_of self.now.kept) axioms.old }
+        ensures names { names.new ≡ overwritten (name_count (contents rest.now)) (set_of self.now.closed) names.old }
     {
+        let book = rest.book();
         write_flags(&self.kept[..book.axioms().len()], axioms);
         write_flags(&self.closed[..book.names().count()], names);
     }

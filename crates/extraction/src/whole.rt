@@ -10,7 +10,7 @@ use crate::extractor::Extractor;
 use crate::mentions::list_axiom;
 use crate::start::{axioms_in_force, seeded_names};
 use crate::tables::{Flags, Tables};
-use book::Book;
+use book::{AtRest, Book};
 
 // The whole extractor: all axioms in force are kept, so worlds need no repair, and no round is counted.
 #[derive(Clone, Copy, Debug)]
@@ -42,10 +42,10 @@ impl Extractor for Whole {
 
     ghost promises = { λ e b h. tt };
 
-    fn extract(&self, book: &Book, tables: &mut Tables) -> u32 {
-        tables.kept = axioms_in_force(book);
-        tables.closed = seeded_names(book);
-        list_names(&mut tables.closed, book, &tables.kept);
+    fn extract(&self, rest: &AtRest, tables: &mut Tables) -> u32 {
+        tables.kept = axioms_in_force(rest.book());
+        tables.closed = seeded_names(rest.book());
+        list_names(&mut tables.closed, rest.book(), &tables.kept);
         0
     }
 }

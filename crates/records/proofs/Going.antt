@@ -2,7 +2,7 @@
 use Rattle.std.proofs.Common.{◌≡◌, ℕ, zero, suc, ◌+◌, ◌<◌, ◌≤◌, Bool, true, false, cond, ltb, List, length, take, drop, IfOk, IfErr, Ok, Err, Result, sym, refl, ap, ◌∙◌, subst, arith, length-drop, length-take, ltb-false, le-leb}
 use borrow.Author.Tests.{lt-leb}
 use Rattle.refusals.specs.Turns.{accepted, refused}
-use Rattle.book.specs.declared.book.Draft.{Draft}
+use Rattle.book.specs.declared.draft.Draft.{Draft}
 use Rattle.book.specs.declared.fault.FileFault.{FileFault}
 use Rattle.book.specs.declared.fault.FileFault.TheVariants.{CutShort}
 use Rattle.book.specs.Contents.{Contents}
@@ -46,9 +46,9 @@ module _ {from to : RecordReader} {x : Record} (y : Yields from (Ok x) to) where
   going rest taken b (Err f) = refl
 
   -- a record was read, and taken or refused
-  pub stepped : {before later : Draft} (r : Result (Unit {0}) FileFault) → Gives (contents later.book) r (record_turn (contents before.book) (entry_of x)) → Stepped before from r later to
+  pub stepped : {before later : Draft} (r : Result (Unit {0}) FileFault) → Gives (contents later) r (record_turn (contents before) (entry_of x)) → Stepped before from r later to
   stepped {before} {later} r g =
-      let b = contents before.book in
+      let b = contents before in
       record {
         file = y.file;
         farther = farther_on r;
@@ -56,8 +56,8 @@ module _ {from to : RecordReader} {x : Record} (y : Yields from (Ok x) to) where
         goes = λ rest taken.
             ap (after_record rest from.at taken b) (sym y.answer) ∙
             ap (λ s. after_turn rest from.at taken (length x.body.now) s (record_turn b (entry_of x)).answer) (sym g.state) ∙
-            ap (after_turn rest from.at taken (length x.body.now) (contents later.book)) (sym g.answer) ∙
-            going rest taken (contents later.book) r;
+            ap (after_turn rest from.at taken (length x.body.now) (contents later)) (sym g.answer) ∙
+            going rest taken (contents later) r;
       }
 
 -- ---- the loop: from its state the loading comes to what it comes to from the beginning
@@ -76,11 +76,11 @@ ahead : (most : ℕ) (file : List ℕ) (b : Contents) (at taken : ℕ) → at < 
 ahead zero file b at taken h e = absurd (omega arith)
 ahead (suc m) file b at taken h e = (m, e, ap (λ t. cond t (accepted b taken) (after_record (loads m file) at taken b (record_at file at))) (lt-leb (length file) at h))
 
-module _ {file : List ℕ} {before later : Draft} {from to : RecordReader} {taken : ℕ} {whole : Loaded} (same : from.file.now ≡ file) (h : from.at < length file) (g : Goes file (contents before.book) from.at taken whole) where
-  pub goes_on : (u : Unit {0}) → Stepped before from (Ok u) later to → Goes file (contents later.book) to.at (taken + 1) whole
+module _ {file : List ℕ} {before later : Draft} {from to : RecordReader} {taken : ℕ} {whole : Loaded} (same : from.file.now ≡ file) (h : from.at < length file) (g : Goes file (contents before) from.at taken whole) where
+  pub goes_on : (u : Unit {0}) → Stepped before from (Ok u) later to → Goes file (contents later) to.at (taken + 1) whole
   goes_on u s =
-      let a = ahead g.most file (contents before.book) from.at taken h g.enough in
-      let on = subst (λ f. after_record (loads a.0 file) from.at taken (contents before.book) (record_at f from.at) ≡ loads a.0 file (contents later.book) to.at (taken + 1)) same (s.goes (loads a.0 file) taken) in
+      let a = ahead g.most file (contents before) from.at taken h g.enough in
+      let on = subst (λ f. after_record (loads a.0 file) from.at taken (contents before) (record_at f from.at) ≡ loads a.0 file (contents later) to.at (taken + 1)) same (s.goes (loads a.0 file) taken) in
       record {
         few = omega (arith, g.few, s.farther);
         most = a.0;
@@ -88,16 +88,16 @@ module _ {file : List ℕ} {before later : Draft} {from to : RecordReader} {take
         comes = sym on ∙ sym a.2 ∙ g.comes;
       }
 
-  pub goes_stop : (f : FileFault) → Stepped before from (Err f) later to → refused (contents later.book) (record { at = from.at; fault = f; taken = taken }) ≡ whole
+  pub goes_stop : (f : FileFault) → Stepped before from (Err f) later to → refused (contents later) (record { at = from.at; fault = f; taken = taken }) ≡ whole
   goes_stop f s =
-      let a = ahead g.most file (contents before.book) from.at taken h g.enough in
-      let on = subst (λ d. after_record (loads a.0 file) from.at taken (contents before.book) (record_at d from.at) ≡ refused (contents later.book) (record { at = from.at; fault = f; taken = taken })) same (s.goes (loads a.0 file) taken) in
+      let a = ahead g.most file (contents before) from.at taken h g.enough in
+      let on = subst (λ d. after_record (loads a.0 file) from.at taken (contents before) (record_at d from.at) ≡ refused (contents later) (record { at = from.at; fault = f; taken = taken })) same (s.goes (loads a.0 file) taken) in
       sym on ∙ sym a.2 ∙ g.comes
 
 -- at the file's end
-pub goes_done : {file : List ℕ} {d : Draft} {at taken : ℕ} {whole : Loaded} → length file ≤ at → Goes file (contents d.book) at taken whole → Ends d (Ok taken) whole
+pub goes_done : {file : List ℕ} {d : Draft} {at taken : ℕ} {whole : Loaded} → length file ≤ at → Goes file (contents d) at taken whole → Ends d (Ok taken) whole
 goes_done {file} {d} {at} {taken} {whole} h g =
-    let e = ended g.most file (contents d.book) at taken h ∙ g.comes in
+    let e = ended g.most file (contents d) at taken h ∙ g.comes in
     record { state = ap (λ t. t.state) e; answer = ap (λ t. t.answer) e }
   where
     ended : (most : ℕ) (f : List ℕ) (b : Contents) (p t : ℕ) → length f ≤ p → accepted b t ≡ loads most f b p t

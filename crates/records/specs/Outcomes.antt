@@ -1,7 +1,7 @@
 -- What a step of loading and a whole loading leave.
 use Rattle.std.specs.Prelude.{◌≡◌, ℕ, ◌+◌, ◌≤◌, length, IfOk, IfErr, Ok, Err, Result}
 use Rattle.refusals.specs.Turns.{refused}
-use Rattle.book.specs.declared.book.Draft.{Draft}
+use Rattle.book.specs.declared.draft.Draft.{Draft}
 use Rattle.book.specs.declared.fault.FileFault.{FileFault}
 use Rattle.book.specs.Contents.{Contents}
 use Rattle.book.specs.Calls.{contents}
@@ -14,7 +14,7 @@ use Rattle.records.specs.Stops.{told}
 
 -- the draft holds what the loading leaves, and r is its answer
 pub record Ends (d : Draft) (r : Result ℕ LoadFault) (turn : Loaded) : Type 0 where
-  pub state : contents d.book ≡ turn.state
+  pub state : contents d ≡ turn.state
   pub answer : told r ≡ turn.answer
 
 -- what the loading comes to from here: the rest after a record that was taken, or the refusal
@@ -27,4 +27,4 @@ pub record Stepped (before : Draft) (from : RecordReader) (r : Result (Unit {0})
   pub file : to.file.now ≡ from.file.now
   pub farther : IfOk r (λ x. from.at + 4 ≤ to.at)
   pub near : IfErr r (λ f. place_in from.at f ≤ length from.file.now)
-  pub goes : (rest : Contents → ℕ → ℕ → Loaded) (taken : ℕ) → after_record rest from.at taken (contents before.book) (record_at from.file.now from.at) ≡ onward rest from.at taken r (contents later.book) to.at
+  pub goes : (rest : Contents → ℕ → ℕ → Loaded) (taken : ℕ) → after_record rest from.at taken (contents before) (record_at from.file.now from.at) ≡ onward rest from.at taken r (contents later) to.at

@@ -3,9 +3,9 @@ ghost use Rattle.refusals.specs.Refusals.{reason_text};
 ghost use Rattle.records.specs.Places.{place_in};
 
 use book::FileFault;
+use refusals::Refusal;
 use std::error::Error;
 use std::fmt;
-use refusals::Refusal;
 
 // A refused loading: the offset of the record where it stopped, why, and how many records were taken before it. The
 // place of the fault fits a number.

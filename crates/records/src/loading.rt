@@ -18,7 +18,7 @@ fn step(draft: &mut Draft, reader: &mut RecordReader<'_>) -> Result<(), FileFaul
 
 // Takes the records of a file in their order.
 fn load_records(draft: &mut Draft, file: &[u8]) -> Result<usize, LoadFault>
-    ensures { Ends draft.new result (loads (length file.now) file.now (contents draft.old.book) 0 0) }
+    ensures { Ends draft.new result (loads (length file.now) file.now (contents draft.old) 0 0) }
 {
     let mut reader = RecordReader { file, at: 0 };
     let mut taken = 0;
@@ -42,7 +42,7 @@ fn load_records(draft: &mut Draft, file: &[u8]) -> Result<usize, LoadFault>
 // record ends it, and those before it stay.
 #[tactic(auto, unfolding(crate::specs::Loading::loading))]
 pub fn load(draft: &mut Draft, file: &[u8]) -> Result<usize, LoadFault>
-    ensures { Ends draft.new result (loading (contents draft.old.book) file.now) }
+    ensures { Ends draft.new result (loading (contents draft.old) file.now) }
 {
     if !draft.book().is_blank() {
         return Err(LoadFault {

@@ -12,7 +12,7 @@ use vocabulary::{NameFault, NameId};
 
 // Makes the name of a record: its kind byte, then its label.
 fn take_name(draft: &mut Draft, body: &[u8]) -> Result<(), BookFault>
-    ensures { Gives (contents draft.new.book) result (name_record (contents draft.old.book) body.now) }
+    ensures { Gives (contents draft.new) result (name_record (contents draft.old) body.now) }
 {
     let [kind, label @ ..] = body else {
         return Err(BookFault::Name(NameFault::BadKind));
@@ -23,7 +23,7 @@ fn take_name(draft: &mut Draft, body: &[u8]) -> Result<(), BookFault>
 
 // Seeds the name whose number is the body.
 fn take_seed(draft: &mut Draft, body: &[u8]) -> Result<(), BookFault>
-    ensures { Gives (contents draft.new.book) result (seed_record (contents draft.old.book) body.now) }
+    ensures { Gives (contents draft.new) result (seed_record (contents draft.old) body.now) }
 {
     let [low, high, rest @ ..] = body else {
         return Err(BookFault::Item(ItemFault::CutShort(0)));
@@ -40,7 +40,7 @@ fn take_seed(draft: &mut Draft, body: &[u8]) -> Result<(), BookFault>
 
 // Takes a record as its naming, filing or seeding. A body of more than 512 bytes is not looked into.
 pub(crate) fn take(draft: &mut Draft, entry: Record<'_>) -> Result<(), FileFault>
-    ensures { Gives (contents draft.new.book) result (record_turn (contents draft.old.book) (entry_of entry.entry)) }
+    ensures { Gives (contents draft.new) result (record_turn (contents draft.old) (entry_of entry.entry)) }
 {
     let kind = RecordKind::try_from(entry.kind).map_err(|_| FileFault::UnknownKind)?;
     if entry.body.len() > LONGEST_BODY {

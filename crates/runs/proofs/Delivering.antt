@@ -19,8 +19,8 @@ use Rattle.runs.proofs.Upholding.{same_standing}
 
 -- every book that calls are performed on can be written and loaded back
 pub state_proper : (s : State) → Proper (standing s).book
-state_proper (Draft d) = book_proper d.book
-state_proper (Frozen f) = book_proper f.book
+state_proper (Draft d) = book_proper d
+state_proper (Frozen f) = book_proper f
 
 module _ (kept : Contents → Marks) where
   -- the part of a frozen book was written

@@ -36,5 +36,5 @@ module _ (kept : Contents → Marks) (rounds : Contents → ℕ) where
 
 -- every book that calls are performed on is sound
 pub state_sound : (s : State) → Sound (standing s).book
-state_sound (Draft d) = d.book.right
-state_sound (Frozen f) = f.book.right
+state_sound (Draft d) = d.right
+state_sound (Frozen f) = f.right

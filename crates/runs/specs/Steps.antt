@@ -42,8 +42,8 @@ pub record Standing : Type 0 where
   pub book : Contents
 
 abbrev pub standing : State → Standing
-standing (Draft d) = record { frozen = false; book = contents d.book }
-standing (Frozen f) = record { frozen = true; book = contents f.book }
+standing (Draft d) = record { frozen = false; book = contents d }
+standing (Frozen f) = record { frozen = true; book = contents f }
 
 -- an empty draft
 abbrev pub start : Standing

@@ -8,7 +8,7 @@ ghost use Rattle.runs.specs.Steps.{step_of, standing};
 use crate::call::Call;
 use crate::cut::Cut;
 use crate::state::State;
-use book::Book;
+use book::AtRest;
 use extraction::{Extractor, MarkFault, Marking, Stage, Tables, Whole};
 use locality::Filling;
 
@@ -60,13 +60,13 @@ impl Extractor for Pile {
 
     ghost promises = { λ p b h. pile_promises b h (stack_of p) };
 
-    fn extract(&self, book: &Book, tables: &mut Tables) -> u32 {
+    fn extract(&self, rest: &AtRest, tables: &mut Tables) -> u32 {
         match self {
-            Pile::Whole => Whole.extract(book, tables),
-            Pile::Bottom => BOTTOM.extract(book, tables),
-            Pile::Top => TOP.extract(book, tables),
-            Pile::TopOverBottom => TOP_OVER_BOTTOM.extract(book, tables),
-            Pile::BottomOverTop => BOTTOM_OVER_TOP.extract(book, tables),
+            Pile::Whole => Whole.extract(rest, tables),
+            Pile::Bottom => BOTTOM.extract(rest, tables),
+            Pile::Top => TOP.extract(rest, tables),
+            Pile::TopOverBottom => TOP_OVER_BOTTOM.extract(rest, tables),
+            Pile::BottomOverTop => BOTTOM_OVER_TOP.extract(rest, tables),
         }
     }
 }

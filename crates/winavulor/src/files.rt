@@ -22,7 +22,7 @@ pub(crate) fn read(rt: &HostRuntime, path: &str) -> Result<Vec<u8>, Failure> {
 
 // The book of a file with these bytes, and how many records the file has.
 pub(crate) fn drafted(rt: &HostRuntime, path: &str, bytes: &[u8]) -> Result<(Draft, usize), Failure>
-    ensures book { IfOk result (λ r. contents r.0.book ≡ (loading empty bytes.now).state) }
+    ensures book { IfOk result (λ r. contents r.0 ≡ (loading empty bytes.now).state) }
     ensures taken { IfOk result (λ r. (loading empty bytes.now).answer ≡ Ok r.1) }
 {
     let mut draft = Draft::open(rt.alloc())?;

@@ -3,7 +3,7 @@ ghost use Rattle.extraction.specs.Extractors.{Meaning};
 ghost use Rattle.part.specs.Writing.{WritesAs, ReadBack, WrittenAgain, writing};
 
 use crate::writing::sections::Part;
-use book::Frozen;
+use book::AtRest;
 use extraction::{Extractor, MarkFault, Tables, is_unseeded};
 
 // Marks a frozen book through a pile, and writes the part that the marked axioms make: 1 or 0 for each axiom in one
@@ -13,24 +13,24 @@ use extraction::{Extractor, MarkFault, Tables, is_unseeded};
 // both do would hand out tables and rounds, and leave the test for room between.
 #[tactic(auto, using(crate::proofs::Delivered::part_back))]
 pub fn write<E: Extractor>(
-    frozen: &Frozen,
+    rest: &AtRest,
     pile: &E,
     axioms: &mut [u8],
     names: &mut [u8],
     part: &mut [u8],
 ) -> Result<usize, MarkFault>
-    ensures gives { WritesAs axioms.new names.new part.new result (writing (contents frozen.now.book) (E.Extractor.kept pile.now (contents frozen.now.book)) (record { axioms = axioms.old; names = names.old; part = part.old })) }
-    ensures back { ReadBack (contents frozen.now.book) (E.Extractor.kept pile.now (contents frozen.now.book)) }
-    ensures again { WrittenAgain (contents frozen.now.book) (E.Extractor.kept pile.now (contents frozen.now.book)) }
-    ensures means { Meaning (contents frozen.now.book) (E.Extractor.kept pile.now (contents frozen.now.book)) (E.Extractor.repair pile.now (contents frozen.now.book)) (E.Extractor.rounds pile.now (contents frozen.now.book)) }
-    ensures promises { E.Extractor.stages pile.now (contents frozen.now.book) }
+    ensures gives { WritesAs axioms.new names.new part.new result (writing (contents rest.now) (E.Extractor.kept pile.now (contents rest.now)) (record { axioms = axioms.old; names = names.old; part = part.old })) }
+    ensures back { ReadBack (contents rest.now) (E.Extractor.kept pile.now (contents rest.now)) }
+    ensures again { WrittenAgain (contents rest.now) (E.Extractor.kept pile.now (contents rest.now)) }
+    ensures means { Meaning (contents rest.now) (E.Extractor.kept pile.now (contents rest.now)) (E.Extractor.repair pile.now (contents rest.now)) (E.Extractor.rounds pile.now (contents rest.now)) }
+    ensures promises { E.Extractor.stages pile.now (contents rest.now) }
 {
-    let book = frozen.book();
+    let book = rest.book();
     if is_unseeded(book) {
         return Err(MarkFault::EmptySignature);
     }
     let mut tables = Tables::new();
-    pile.extract(book, &mut tables);
+    pile.extract(rest, &mut tables);
     let marked = Part {
         book,
         kept: &tables.kept,
@@ -42,7 +42,7 @@ pub fn write<E: Extractor>(
     {
         return Err(MarkFault::ShortBuffer);
     }
-    tables.write(book, axioms, names);
+    tables.write(rest, axioms, names);
     marked.write(part);
     Ok(len)
 }

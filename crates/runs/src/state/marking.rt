@@ -20,7 +20,7 @@ impl State {
     {
         match self {
             State::Draft(_) => None,
-            State::Frozen(frozen) => Some(mark(frozen, pile, axioms, names)),
+            State::Frozen(frozen) => Some(mark(frozen.at_rest(), pile, axioms, names)),
         }
     }
 

@@ -14,7 +14,7 @@ use std::alloc::{AllocError, Global};
 
 // Makes a call on a draft. Freezing takes the draft, which is lent here, and so is left to the caller.
 fn amend(draft: &mut Draft, call: &Call) -> Outcome
-    ensures amends { Amends (contents draft.new.book) result (on_draft (contents draft.old.book) (step_of call.now)) }
+    ensures amends { Amends (contents draft.new) result (on_draft (contents draft.old) (step_of call.now)) }
     ensures kept { result ≡ Err NotAllowed → draft.new ≡ draft.old }
 {
     match call {
@@ -52,7 +52,7 @@ fn amend(draft: &mut Draft, call: &Call) -> Outcome
 }
 
 fn on_draft(draft: Draft, call: &Call) -> (State, Outcome)
-    ensures performs { Performs result.0 result.1 (on_draft (contents draft.book) (step_of call.now)) }
+    ensures performs { Performs result.0 result.1 (on_draft (contents draft) (step_of call.now)) }
     ensures kept { result.1 ≡ Err NotAllowed → result.0 ≡ OfDraft draft }
 {
     let mut draft = draft;
@@ -64,7 +64,7 @@ fn on_draft(draft: Draft, call: &Call) -> (State, Outcome)
 }
 
 fn on_frozen(frozen: Frozen, call: &Call) -> (State, Outcome)
-    ensures performs { Performs result.0 result.1 (on_frozen (contents frozen.book) (step_of call.now)) }
+    ensures performs { Performs result.0 result.1 (on_frozen (contents frozen) (step_of call.now)) }
     ensures kept { result.1 ≡ Err NotAllowed → result.0 ≡ OfFrozen frozen }
 {
     match call {
@@ -86,7 +86,7 @@ impl State {
     {
         match self {
             State::Draft(draft) => draft.book(),
-            State::Frozen(frozen) => frozen.book(),
+            State::Frozen(frozen) => frozen.at_rest().book(),
         }
     }
 

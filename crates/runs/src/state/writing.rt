@@ -20,7 +20,7 @@ impl State {
     {
         match self {
             State::Draft(_) => None,
-            State::Frozen(frozen) => Some(write(frozen, pile, axioms, names, part)),
+            State::Frozen(frozen) => Some(write(frozen.at_rest(), pile, axioms, names, part)),
         }
     }
 }

@@ -14,5 +14,5 @@ returns-in-Draft-clause-promise g c =
 pub returns-in-Frozen-clause-promise : goal.returns-in-Frozen-clause-promise
 returns-in-Frozen-clause-promise g c =
     let so : Attempts c.mark.new.axioms c.mark.new.names (Some c.mark.result) (attempt (g.E.Extractor.kept c.args.pile.now) (g.E.Extractor.rounds c.args.pile.now) (standing c.args.self.now) (record { axioms = c.args.axioms.now; names = c.args.names.now })) =
-    rw c.in-Frozen.is (attempted (g.E.Extractor.kept c.args.pile.now) (g.E.Extractor.rounds c.args.pile.now) (contents c.in-Frozen.frozen.book) (record { axioms = c.args.axioms.now; names = c.args.names.now }) _ _ _ c.mark.ensures.gives) in
+    rw c.in-Frozen.is (attempted (g.E.Extractor.kept c.args.pile.now) (g.E.Extractor.rounds c.args.pile.now) (contents c.in-Frozen.frozen) (record { axioms = c.args.axioms.now; names = c.args.names.now }) _ _ _ c.mark.ensures.gives) in
     upheld _ _ _ _ (g.met.E.Extractor.means c.args.pile.now) (g.met.E.Extractor.promises c.args.pile.now) (standing c.args.self.now) (state_sound c.args.self.now) _ _ _ _ so
