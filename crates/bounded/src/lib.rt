@@ -1,4 +1,4 @@
-// Tables of a limited size: items by number, whose memory is all claimed when the table is made.
+//! Tables of a limited size: items by number, whose memory is all claimed when the table is made.
 #![tactic(auto)]
 
 ghost use Rattle.std.specs.Prelude.{◌≡◌, ◌≤◌, ◌<◌, ◌↔◌, [], ◌∷◌, ◌++◌, length, take, IfOk, IfNone, IfSome, IsSome, OnSome, slice_get};
@@ -9,12 +9,14 @@ ghost use Rattle.std.specs.Option.{option_copied};
 use std::alloc::{AllocError, Global};
 use std::marker::Model;
 
-// Items by number, at most LIMIT of them. A clause sees the list of the items.
+/// Items by number, from 0 in the order in which they were added, at most LIMIT of them. A clause sees the list of the
+/// items.
 #[derive(Debug, Drop)]
 pub struct Bounded<T, const LIMIT: usize> {
     items: Vec<T>,
 }
 
+/// A table is seen as the list of its items.
 impl<T, const LIMIT: usize> Model for Bounded<T, LIMIT> {
     ghost use Rattle.std.specs.Coded.{coded_list};
     ghost use Rattle.std.specs.Prelude.{◌≤◌, List, vec_capacity, vec_len};
@@ -32,7 +34,7 @@ impl<T, const LIMIT: usize> Model for Bounded<T, LIMIT> {
 impl<T, const LIMIT: usize> Bounded<T, LIMIT> {
     ghost use Rattle.bounded.specs.Lending.{lends_item};
 
-    // An empty table.
+    /// An empty table with room for LIMIT items. It is refused only where the memory cannot be claimed.
     pub fn new(heap: Global) -> Result<Self, AllocError>
         ensures { IfOk result (λ b. b ≡ []) }
     {
@@ -41,7 +43,7 @@ impl<T, const LIMIT: usize> Bounded<T, LIMIT> {
         })
     }
 
-    // How many items there are.
+    /// How many items there are.
     pub fn len(&self) -> usize
         ensures value { result ≡ length self.now }
         ensures bound { result ≤ LIMIT }
@@ -49,7 +51,7 @@ impl<T, const LIMIT: usize> Bounded<T, LIMIT> {
         self.items.len()
     }
 
-    // The items in the order of their numbers.
+    /// The items in the order of their numbers.
     pub fn as_slice(&self) -> &[T]
         ensures value { result.now ≡ self.now }
         ensures bound { length result.now ≤ LIMIT }
@@ -57,14 +59,15 @@ impl<T, const LIMIT: usize> Bounded<T, LIMIT> {
         self.items.as_slice()
     }
 
-    // The item with a number, if there is one.
+    /// The item with a number, or `None` where no item has it.
     pub fn get(&self, number: usize) -> Option<&T>
         ensures { option_copied result ≡ slice_get self.now number }
     {
         self.items.get(number)
     }
 
-    // The item with a number, to be written, if there is one.
+    /// The item with a number, lent to be written, or `None` where no item has it. What the table ends as is told in
+    /// `specs/Lending`.
     pub fn get_mut(&mut self, number: usize) -> Option<&mut T>
         ensures* writes_back { sem 𝓛 (lends_item T.row LIMIT.row self.entry number result) }
         ensures variant { IsSome result ↔ (number < length self.old) }
@@ -75,7 +78,8 @@ impl<T, const LIMIT: usize> Bounded<T, LIMIT> {
 }
 
 impl<T: Drop, const LIMIT: usize> Bounded<T, LIMIT> {
-    // Adds an item behind the others, and answers its number; a full table stays as it is.
+    /// Adds an item behind the others, and answers its number. A table that has LIMIT items already stays as it is, and
+    /// `None` is answered.
     pub fn push(&mut self, item: T) -> Option<usize>
         ensures variant { IsSome result ↔ (length self.old < LIMIT) }
         ensures number { IfSome result (λ number. number ≡ length self.old) }
@@ -90,7 +94,7 @@ impl<T: Drop, const LIMIT: usize> Bounded<T, LIMIT> {
         Some(number)
     }
 
-    // Keeps the first items, so many, and drops the others.
+    /// Keeps the first items, so many, and drops the others. Where there are no more than that, all stay.
     pub fn truncate(&mut self, count: usize)
         ensures { self.new ≡ take count self.old }
     {

@@ -1,5 +1,5 @@
 -- Which refusal decides, where several fit.
-use Rattle.std.specs.Prelude.{◌≡◌, ◌≢◌, Bool, true, not, ◌&&◌, ◌==◌, if◌then◌else◌, nat_le, nat_lt, Some, None, Option}
+use Rattle.std.specs.Prelude.{◌≡◌, ◌≢◌, Bool, true, not, ◌&&◌, ◌==◌, if◌then◌else◌, nat_le, nat_lt, Some, None, Option, Ok, Err, Result}
 use Rattle.refusals.specs.declared.refusal.Refusal.{Refusal}
 use Rattle.refusals.specs.Refusals.{reason_number}
 
@@ -23,3 +23,8 @@ pub record Decides (Fits : Refusal → Type 0) (r : Refusal) : Type 0 where
 abbrev pub Judged : (Refusal → Type 0) → Option Refusal → Type 0
 Judged Fits None = (s : Refusal) → ¬ Fits s
 Judged Fits (Some r) = Decides Fits r
+
+-- the refusal that an answer tells, if it is one; `told` says how its faults are told
+abbrev pub refusal_of : {A F : Type 0} → (F → Refusal) → Result A F → Option Refusal
+refusal_of told (Ok x) = None
+refusal_of told (Err fault) = Some (told fault)

@@ -6,8 +6,11 @@ use std::fmt;
 /// Which part of a file or a call a refusal is about: the file's records, the book, or one item of a body.
 #[derive(Clone, Copy, Debug, PartialEq, Eq, Hash)]
 pub enum Layer {
+    /// The records of a file.
     File = 1,
+    /// The book.
     Book,
+    /// One item of a body.
     Item,
 }
 

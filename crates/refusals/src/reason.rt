@@ -7,26 +7,47 @@ use std::fmt;
 /// Why something is refused, in the order of the numbers that the format gives the reasons, 1 to 21.
 #[derive(Clone, Copy, Debug, PartialEq, Eq, Hash)]
 pub enum Reason {
+    /// The book to load into has a name or an axiom.
     NotEmpty = 1,
+    /// A record's head or its body is cut short.
     RecordCutShort,
+    /// A kind is none of a record, or none of an axiom that is filed.
     UnknownKind,
+    /// A body has more than 512 bytes.
     BodyTooLong,
+    /// The kind byte of a name is missing or above 2.
     BadKind,
+    /// A label has no byte, or more than 32.
     LabelLength,
+    /// A byte of a label is outside 33 to 126.
     LabelByte,
+    /// A name of the kind has the label.
     LabelTaken,
+    /// There are 1,024 names.
     NamesFull,
+    /// A term is due inside 24 others.
     TooDeep,
+    /// The body ends before or inside an item.
     ItemCutShort,
+    /// A code is above 7.
     UnknownCode,
+    /// A direction byte is above 1.
     UnknownDirection,
+    /// No name of the kind wanted has the number.
     WrongName,
+    /// A count is 0.
     ZeroCount,
+    /// Bytes are left behind the last item.
     LeftOver,
+    /// There are 1,024 axioms.
     AxiomsFull,
+    /// The bodies would have more than 32,768 bytes together.
     BytesFull,
+    /// No axiom has the number.
     NoSuchAxiom,
+    /// No name is seeded.
     EmptySignature,
+    /// A buffer is too short.
     ShortBuffer,
 }
 

@@ -9,7 +9,9 @@ use std::fmt;
 /// layer follows from the reason.
 #[derive(Clone, Copy, Debug, PartialEq, Eq, Hash)]
 pub struct Refusal {
+    /// Why the call is refused.
     pub reason: Reason,
+    /// The offset of the fault.
     pub place: usize,
 }
 

@@ -15,7 +15,8 @@ use Rattle.terms.specs.declared.term.RoleItem.{RoleItem}
 use Rattle.terms.specs.Codes.{code_of, code_byte, direction_of, direction_byte, count_of}
 use Rattle.terms.specs.Forms.{Form, Rule, nesting}
 use Rattle.terms.specs.Reading.{Outcome, read_byte, read_number, read_code, read_direction, read_count, read_name, role_item, read_role, read_rest, read_term, read_whole, read_axiom}
-use Rattle.terms.specs.Writing.{two_bytes, name_bytes, role_bytes, term_bytes, body_bytes, rule_kind}
+use Rattle.terms.specs.Writing.{name_bytes, role_bytes, term_bytes, body_bytes, rule_kind}
+use Rattle.terms.specs.Numbers.{two_bytes}
 use Rattle.terms.specs.WellFormed.{name_fits, role_fits, numbers_fit, term_fits, well_formed}
 use Rattle.terms.proofs.Numbers.{chosen, none_chosen, two_bytes_are}
 use Rattle.terms.proofs.Steps.{Yields, yields_each, yields_got, yields_next, yields_known, yields_cond}

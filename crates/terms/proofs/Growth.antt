@@ -8,7 +8,7 @@ use Rattle.vocabulary.specs.Entities.{Entity, kind_at}
 use Rattle.terms.specs.declared.term.RoleItem.{RoleItem}
 use Rattle.terms.specs.declared.term.RoleItem.TheVariants.{Forward, Inverse}
 use Rattle.terms.specs.Forms.{Form, Rule, nothing, everything, concept, just, negation, both, exists, at_least, inclusion, equivalence, role_inclusion, transitive, functional, member, related}
-use Rattle.terms.specs.Reading.{wanted}
+use Rattle.terms.specs.Reading.{is_of_kind}
 use Rattle.terms.specs.WellFormed.{name_fits, role_fits, numbers_fit, term_fits, well_formed}
 
 -- a name keeps its kind when more names are added
@@ -24,7 +24,7 @@ module _ (names other : List Entity) (kept : (n : ℕ) (k : Kind) → kind_at na
   name_kept : (k : Kind) (n : NameId) → name_fits names k n ≡ true → name_fits other k n ≡ true
   name_kept k n = go (kind_at names n.0) refl
     where
-      go : (o : Option Kind) → kind_at names n.0 ≡ o → wanted o k ≡ true → name_fits other k n ≡ true
+      go : (o : Option Kind) → kind_at names n.0 ≡ o → is_of_kind o k ≡ true → name_fits other k n ≡ true
       go None e h = absurd (both_ways false refl h)
       go (Some j) e h = rw (kept n.0 j e) h
 

@@ -1,7 +1,7 @@
 -- Numbers and what they stand for.
 use Rattle.std.proofs.Common.{◌≡◌, ℕ, ◌+◌, ◌*◌, ◌/◌, ◌%◌, ◌<◌, Bool, true, false, cond, eqb, [], ◌∷◌, Some, None, Option, refl, ap, ◌∙◌, arith}
 use Rattle.std.proofs.lemmas.Bool.{eqb-true}
-use Rattle.terms.specs.Writing.{two_bytes}
+use Rattle.terms.specs.Numbers.{two_bytes}
 
 -- a choice by the number n, or one of the rest: the number is that of what is chosen
 module _ {X : Type 0} (number_of : X → ℕ) (b : ℕ) where

@@ -14,7 +14,8 @@ use Rattle.terms.specs.declared.term.RoleItem.TheVariants.{Forward, Inverse}
 use Rattle.terms.specs.Codes.{code_of, direction_of}
 use Rattle.terms.specs.Forms.{Form, Rule, nesting, nothing, everything, concept, just, negation, both, exists, at_least, inclusion, equivalence, role_inclusion, transitive, functional, member, related}
 use Rattle.terms.specs.Reading.{Outcome, got, next, read_byte, read_number, read_code, read_direction, read_count, read_name, read_role, read_rest, read_term, read_whole, read_axiom}
-use Rattle.terms.specs.Writing.{two_bytes, name_bytes, role_bytes, term_bytes, body_bytes, rule_kind}
+use Rattle.terms.specs.Writing.{name_bytes, role_bytes, term_bytes, body_bytes, rule_kind}
+use Rattle.terms.specs.Numbers.{two_bytes}
 use Rattle.terms.specs.WellFormed.{name_fits, role_fits, numbers_fit, term_fits, well_formed}
 use Rattle.terms.proofs.Steps.{next_got}
 use Rattle.terms.proofs.Stands.{Stands, stands_whole, stands_left, stands_right}

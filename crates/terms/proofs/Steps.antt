@@ -1,7 +1,7 @@
 -- Reasoning about a reading step by step: what holds of the value and the place that it gives, if it gives any.
 use Rattle.std.proofs.Common.{◌≡◌, ℕ, Bool, true, false, cond, Some, None, Option, refl, ap, ◌∙◌, subst}
 use Rattle.terms.specs.declared.fault.ItemFault.{ItemFault}
-use Rattle.terms.specs.Reading.{Outcome, got, bad, next, known}
+use Rattle.terms.specs.Reading.{Outcome, got, bad, next, value_or_fault}
 
 -- the value and the place after it, if there are any, are as P says
 unfoldable pub Yields : {X : Type 0} → (X → ℕ → Type 0) → Outcome X → Type 0
@@ -31,7 +31,7 @@ yields_next P Q (got x mid) more h k = k x mid h
 yields_next P Q (bad fault) more h k = tt
 
 -- an item that must stand for a value
-pub yields_known : {X : Type 0} (P : X → ℕ → Type 0) (o : Option X) (fault : ItemFault) (end : ℕ) → ((x : X) → o ≡ Some x → P x end) → Yields P (known o fault end)
+pub yields_known : {X : Type 0} (P : X → ℕ → Type 0) (o : Option X) (fault : ItemFault) (end : ℕ) → ((x : X) → o ≡ Some x → P x end) → Yields P (value_or_fault o fault end)
 unfolding Yields
 yields_known P (Some x) fault end h = h x refl
 yields_known P None fault end h = tt

@@ -10,7 +10,7 @@ use Rattle.terms.specs.declared.code.Code.{Code}
 use Rattle.terms.specs.declared.code.Code.TheVariants.{Nothing, Everything, Concept, Just, Not, And, Exists, AtLeast}
 use Rattle.terms.specs.declared.fault.ItemFault.{ItemFault}
 use Rattle.terms.specs.Forms.{Form}
-use Rattle.terms.specs.Reading.{Outcome, got, bad, next, known, read_byte, read_number, read_code, read_direction, read_count, read_name, read_role, read_rest, read_term, read_whole, read_axiom}
+use Rattle.terms.specs.Reading.{Outcome, got, bad, next, value_or_fault, read_byte, read_number, read_code, read_direction, read_count, read_name, read_role, read_rest, read_term, read_whole, read_axiom}
 use Rattle.terms.specs.Refusals.{item_refusal}
 
 -- the place after the value, or the place of the faulty item, is at most n
@@ -39,7 +39,7 @@ pub inside_last : {X Y : Type 0} (n : ℕ) (o : Outcome X) (f : X → Y) → Ins
 inside_last n o f h = inside_next n o _ h (λ x end l. inside_got n (f x) end l)
 
 -- an item that must stand for a value
-pub inside_known : {X : Type 0} (n : ℕ) (o : Option X) (fault : ItemFault) (end : ℕ) → end ≤ n → (item_refusal fault).place ≤ n → Inside n (known o fault end)
+pub inside_known : {X : Type 0} (n : ℕ) (o : Option X) (fault : ItemFault) (end : ℕ) → end ≤ n → (item_refusal fault).place ≤ n → Inside n (value_or_fault o fault end)
 unfolding Inside
 inside_known n (Some x) fault end h l = h
 inside_known n None fault end h l = l

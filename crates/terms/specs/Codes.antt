@@ -1,5 +1,5 @@
 -- The bytes and numbers that stand for term codes, directions and axiom kinds.
-use Rattle.std.specs.Prelude.{ℕ, cond, Some, None, Option, ◌==◌, nat_le}
+use Rattle.std.specs.Prelude.{ℕ, if◌then◌else◌, Some, None, Option, ◌==◌, nat_le}
 use Rattle.terms.specs.declared.code.Code.{Code}
 use Rattle.terms.specs.declared.code.Code.TheVariants as Code'
 use Rattle.terms.specs.declared.code.Direction.{Direction}
@@ -9,21 +9,27 @@ use Rattle.terms.specs.declared.«axiom».AxiomKind.TheVariants as Kind'
 use Rattle.terms.specs.declared.«axiom».Axiom.{Axiom}
 use Rattle.terms.specs.declared.«axiom».Axiom.TheVariants.{Inclusion, Equivalence, RoleInclusion, Transitive, Functional, ConceptAssertion, RoleAssertion}
 
+-- the code of a term that a byte stands for, if it stands for one
 abbrev pub code_of : ℕ → Option Code
 code_of b =
-    cond (b == 0) (Some Code'.Nothing)
-    (cond (b == 1) (Some Code'.Everything)
-    (cond (b == 2) (Some Code'.Concept)
-    (cond (b == 3) (Some Code'.Just)
-    (cond (b == 4) (Some Code'.Not)
-    (cond (b == 5) (Some Code'.And)
-    (cond (b == 6) (Some Code'.Exists)
-    (cond (b == 7) (Some Code'.AtLeast) None)))))))
+    if b == 0 then Some Code'.Nothing
+    else if b == 1 then Some Code'.Everything
+    else if b == 2 then Some Code'.Concept
+    else if b == 3 then Some Code'.Just
+    else if b == 4 then Some Code'.Not
+    else if b == 5 then Some Code'.And
+    else if b == 6 then Some Code'.Exists
+    else if b == 7 then Some Code'.AtLeast
+    else None
 
+-- the direction that a byte stands for, if it stands for one
 abbrev pub direction_of : ℕ → Option Direction
-direction_of b = cond (b == 0) (Some Direction'.Forward) (cond (b == 1) (Some Direction'.Inverse) None)
+direction_of b =
+    if b == 0 then Some Direction'.Forward
+    else if b == 1 then Some Direction'.Inverse
+    else None
 
--- and the other way round
+-- the byte of a code, and of a direction
 abbrev pub code_byte : Code → ℕ
 code_byte Code'.Nothing = 0
 code_byte Code'.Everything = 1
@@ -38,18 +44,19 @@ abbrev pub direction_byte : Direction → ℕ
 direction_byte Direction'.Forward = 0
 direction_byte Direction'.Inverse = 1
 
--- the kinds of axioms are the record kinds 16 to 22
+-- the kind of axioms that a record kind is, if it is one: 16 to 22
 abbrev pub axiom_kind_of : ℕ → Option AxiomKind
 axiom_kind_of k =
-    cond (k == 16) (Some Kind'.Inclusion)
-    (cond (k == 17) (Some Kind'.Equivalence)
-    (cond (k == 18) (Some Kind'.RoleInclusion)
-    (cond (k == 19) (Some Kind'.Transitive)
-    (cond (k == 20) (Some Kind'.Functional)
-    (cond (k == 21) (Some Kind'.ConceptAssertion)
-    (cond (k == 22) (Some Kind'.RoleAssertion) None))))))
+    if k == 16 then Some Kind'.Inclusion
+    else if k == 17 then Some Kind'.Equivalence
+    else if k == 18 then Some Kind'.RoleInclusion
+    else if k == 19 then Some Kind'.Transitive
+    else if k == 20 then Some Kind'.Functional
+    else if k == 21 then Some Kind'.ConceptAssertion
+    else if k == 22 then Some Kind'.RoleAssertion
+    else None
 
--- and the other way round
+-- the record kind of a kind of axioms
 abbrev pub kind_number : AxiomKind → ℕ
 kind_number Kind'.Inclusion = 16
 kind_number Kind'.Equivalence = 17
@@ -59,6 +66,7 @@ kind_number Kind'.Functional = 20
 kind_number Kind'.ConceptAssertion = 21
 kind_number Kind'.RoleAssertion = 22
 
+-- the kind of an axiom
 abbrev pub kind_of_axiom : Axiom → AxiomKind
 kind_of_axiom (Inclusion t u) = Kind'.Inclusion
 kind_of_axiom (Equivalence t u) = Kind'.Equivalence
@@ -70,4 +78,4 @@ kind_of_axiom (RoleAssertion r a b) = Kind'.RoleAssertion
 
 -- a count is at least 1
 abbrev pub count_of : ℕ → Option ℕ
-count_of n = cond (nat_le 1 n) (Some n) None
+count_of n = if nat_le 1 n then Some n else None

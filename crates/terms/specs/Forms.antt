@@ -1,6 +1,11 @@
 -- Terms and axioms as trees, apart from any table, and the trees that a table's nodes stand for.
+--
+-- Two words each, for two things: a `Term` of src/ is one node of a table, which names the terms inside it by their places
+-- there, and a `Form` is the whole tree that a node stands for; an `Axiom` of src/ names its terms by their places in a
+-- table, and a `Rule` is what it states, with its terms as trees.
 use Rattle.std.specs.Prelude.{ℕ, zero, suc, ◌+◌, max, List, slice_index_or}
 use Rattle.vocabulary.specs.declared.name.NameId.{NameId}
+use Rattle.terms.specs.Limits.{most_levels}
 use Rattle.terms.specs.declared.term.RoleItem.{RoleItem}
 use Rattle.terms.specs.declared.term.TermId.{TermId}
 use Rattle.terms.specs.declared.term.Term.{Term}
@@ -8,7 +13,7 @@ use Rattle.terms.specs.declared.term.Term.TheVariants.{Nothing, Everything, Conc
 use Rattle.terms.specs.declared.«axiom».Axiom.{Axiom}
 use Rattle.terms.specs.declared.«axiom».Axiom.TheVariants.{Inclusion, Equivalence, RoleInclusion, Transitive, Functional, ConceptAssertion, RoleAssertion}
 
--- a term
+-- a term as a tree
 pub data Form : Type 0 where
   nothing : Form
   everything : Form
@@ -20,7 +25,7 @@ pub data Form : Type 0 where
   at_least : ℕ → RoleItem → Form → Form
   deriving IsSet as form_set
 
--- what an axiom states
+-- what an axiom states, with its terms as trees
 pub data Rule : Type 0 where
   inclusion : Form → Form → Rule
   equivalence : Form → Form → Rule
@@ -60,8 +65,9 @@ form (suc n) ts t = shape (form n ts) (slice_index_or ts t.0 Nothing)
 
 -- the whole tree: no term of a book has more than 24 levels
 unfoldable pub meaning : List Term → TermId → Form
-meaning ts t = form 24 ts t
+meaning ts t = form most_levels ts t
 
+-- what an axiom of a table states
 abbrev pub rule : List Term → Axiom → Rule
 rule ts (Inclusion t u) = inclusion (meaning ts t) (meaning ts u)
 rule ts (Equivalence t u) = equivalence (meaning ts t) (meaning ts u)

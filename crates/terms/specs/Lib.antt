@@ -1,3 +1,5 @@
+pub mod Limits
+pub mod Numbers
 pub mod Codes
 pub mod Refusals
 pub mod Forms
@@ -6,3 +8,6 @@ pub mod Reading
 pub mod Writing
 pub mod WellFormed
 pub mod Roles
+pub mod Layout
+pub mod Fitting
+pub mod Counts

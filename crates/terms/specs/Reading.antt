@@ -1,5 +1,5 @@
 -- The format of a body: how its bytes are read from left to right, item by item, and which item is the first faulty one.
-use Rattle.std.specs.Prelude.{ℕ, zero, suc, ◌+◌, ◌*◌, Bool, false, cond, List, length, Some, None, Option, nat_lt, slice_index}
+use Rattle.std.specs.Prelude.{ℕ, zero, suc, ◌+◌, Bool, false, if◌then◌else◌, List, length, Some, None, Option, nat_lt, slice_index}
 use Rattle.vocabulary.specs.declared.kind.Kind.{Kind}
 use Rattle.vocabulary.specs.declared.kind.Kind.TheVariants as Kind'
 use Rattle.vocabulary.specs.declared.name.NameId.{NameId}
@@ -16,6 +16,8 @@ use Rattle.terms.specs.declared.fault.ItemFault.TheVariants.{TooDeep, CutShort, 
 use Rattle.terms.specs.declared.term.RoleItem.{RoleItem}
 use Rattle.terms.specs.declared.term.RoleItem.TheVariants.{Forward, Inverse}
 use Rattle.terms.specs.Codes.{code_of, direction_of, count_of}
+use Rattle.terms.specs.Limits.{most_levels}
+use Rattle.terms.specs.Numbers.{number_of}
 use Rattle.terms.specs.Forms.{Form, Rule, nothing, everything, concept, just, negation, both, exists, at_least, inclusion, equivalence, role_inclusion, transitive, functional, member, related}
 
 -- what reading gives: a value and the place after it, or the first faulty item
@@ -29,36 +31,41 @@ next (got x at) more = more x at
 next (bad fault) more = bad fault
 
 -- a value that its item must stand for
-abbrev pub known : {X : Type 0} → Option X → ItemFault → ℕ → Outcome X
-known (Some x) fault at = got x at
-known None fault at = bad fault
+abbrev pub value_or_fault : {X : Type 0} → Option X → ItemFault → ℕ → Outcome X
+value_or_fault (Some x) fault at = got x at
+value_or_fault None fault at = bad fault
 
--- the number belongs to a name of the kind wanted
-abbrev pub wanted : Option Kind → Kind → Bool
-wanted None k = false
-wanted (Some j) k = same_kind j k
+-- there is a name, and it is of the kind wanted
+abbrev pub is_of_kind : Option Kind → Kind → Bool
+is_of_kind None k = false
+is_of_kind (Some j) k = same_kind j k
 
 module _ (body : List ℕ) where
   -- one byte of the item that begins at `start`
   abbrev pub read_byte : ℕ → ℕ → Outcome ℕ
-  read_byte start at = cond (nat_lt at (length body)) (got (slice_index body at) (at + 1)) (bad (CutShort start))
+  read_byte start at =
+      if nat_lt at (length body) then got (slice_index body at) (at + 1)
+      else bad (CutShort start)
 
-  -- two bytes, the low one first
+  -- a number of two bytes
   abbrev pub read_number : ℕ → Outcome ℕ
-  read_number at = next (read_byte at at) (λ low mid. next (read_byte at mid) (λ high end. got (low + 256 * high) end))
+  read_number at = next (read_byte at at) (λ low mid. next (read_byte at mid) (λ high end. got (number_of low high) end))
 
   abbrev pub read_code : ℕ → Outcome Code
-  read_code at = next (read_byte at at) (λ b end. known (code_of b) (UnknownCode at) end)
+  read_code at = next (read_byte at at) (λ b end. value_or_fault (code_of b) (UnknownCode at) end)
 
   abbrev pub read_direction : ℕ → Outcome Direction
-  read_direction at = next (read_byte at at) (λ b end. known (direction_of b) (UnknownDirection at) end)
+  read_direction at = next (read_byte at at) (λ b end. value_or_fault (direction_of b) (UnknownDirection at) end)
 
   abbrev pub read_count : ℕ → Outcome ℕ
-  read_count at = next (read_number at) (λ n end. known (count_of n) (ZeroCount at) end)
+  read_count at = next (read_number at) (λ n end. value_or_fault (count_of n) (ZeroCount at) end)
 
   module _ (names : List Entity) where
     abbrev pub read_name : Kind → ℕ → Outcome NameId
-    read_name k at = next (read_number at) (λ n end. cond (wanted (kind_at names n) k) (got (record { 0 = n }) end) (bad (WrongName at)))
+    read_name k at =
+        next (read_number at) (λ n end.
+        if is_of_kind (kind_at names n) k then got (record { 0 = n }) end
+        else bad (WrongName at))
 
     abbrev pub role_item : Direction → NameId → RoleItem
     role_item Direction'.Forward r = Forward r
@@ -86,7 +93,7 @@ module _ (body : List ℕ) where
 
     -- a term of an axiom
     unfoldable pub read_whole : ℕ → Outcome Form
-    read_whole at = read_term 24 at
+    read_whole at = read_term most_levels at
 
     -- the items of an axiom of a kind, from the body's beginning
     abbrev pub read_axiom : AxiomKind → Outcome Rule

@@ -1,5 +1,5 @@
--- Which terms and axioms a book may hold: each number belongs to a name of the kind wanted there, each count is from
--- 1 to 65,535, and no term has more than 24 levels.
+-- Which terms and axioms a book may hold: each number belongs to a name of the kind wanted there, each count is at least 1
+-- and fits two bytes, and no term has more than 24 levels.
 use Rattle.std.specs.Prelude.{Bool, true, ◌&&◌, List, nat_le}
 use Rattle.vocabulary.specs.declared.kind.Kind.{Kind}
 use Rattle.vocabulary.specs.declared.kind.Kind.TheVariants.{Concept, Role, Individual}
@@ -7,12 +7,13 @@ use Rattle.vocabulary.specs.declared.name.NameId.{NameId}
 use Rattle.vocabulary.specs.Entities.{Entity, kind_at}
 use Rattle.terms.specs.declared.term.RoleItem.{RoleItem}
 use Rattle.terms.specs.declared.term.RoleItem.TheVariants.{Forward, Inverse}
+use Rattle.terms.specs.Limits.{most_levels, greatest_count}
 use Rattle.terms.specs.Forms.{Form, Rule, nesting, nothing, everything, concept, just, negation, both, exists, at_least, inclusion, equivalence, role_inclusion, transitive, functional, member, related}
-use Rattle.terms.specs.Reading.{wanted}
+use Rattle.terms.specs.Reading.{is_of_kind}
 
 module _ (names : List Entity) where
   abbrev pub name_fits : Kind → NameId → Bool
-  name_fits k n = wanted (kind_at names n.0) k
+  name_fits k n = is_of_kind (kind_at names n.0) k
 
   abbrev pub role_fits : RoleItem → Bool
   role_fits (Forward r) = name_fits Role r
@@ -27,10 +28,10 @@ module _ (names : List Entity) where
   numbers_fit (negation f) = numbers_fit f
   numbers_fit (both f g) = numbers_fit f && numbers_fit g
   numbers_fit (exists r f) = role_fits r && numbers_fit f
-  numbers_fit (at_least n r f) = (nat_le 1 n && nat_le n 65535) && (role_fits r && numbers_fit f)
+  numbers_fit (at_least n r f) = (nat_le 1 n && nat_le n greatest_count) && (role_fits r && numbers_fit f)
 
   abbrev pub term_fits : Form → Bool
-  term_fits f = nat_le (nesting f) 24 && numbers_fit f
+  term_fits f = nat_le (nesting f) most_levels && numbers_fit f
 
   abbrev pub well_formed : Rule → Bool
   well_formed (inclusion f g) = term_fits f && term_fits g

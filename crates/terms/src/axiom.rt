@@ -6,19 +6,26 @@ use crate::code::UnknownCode;
 use crate::term::{RoleItem, TermId};
 use vocabulary::NameId;
 
-// The seven kinds of axioms, by the kinds of their records.
+/// The seven kinds of axioms, by the kinds of their records, 16 to 22. The axioms themselves are told at `Axiom`.
 #[derive(Clone, Copy, Debug, PartialEq, Eq, Hash)]
 pub enum AxiomKind {
+    /// Two terms follow.
     Inclusion = 16,
+    /// Two terms follow.
     Equivalence,
+    /// Two role items follow.
     RoleInclusion,
+    /// The number of a role follows.
     Transitive,
+    /// A role item follows.
     Functional,
+    /// The number of an individual and a term follow.
     ConceptAssertion,
+    /// The numbers of a role and of two individuals follow.
     RoleAssertion,
 }
 
-// The axiom kind of a record kind, 16 to 22.
+/// The axiom kind of a record kind, 16 to 22, as `specs/Codes` has it. Every other number is refused.
 impl TryFrom<u16> for AxiomKind {
     type Error = UnknownCode;
 
@@ -38,7 +45,7 @@ impl TryFrom<u16> for AxiomKind {
     }
 }
 
-// The record kind of an axiom kind.
+/// The record kind of an axiom kind.
 impl From<AxiomKind> for u16 {
     ghost from_gives = { λ kind code. code ≡ kind_number kind };
 
@@ -47,25 +54,28 @@ impl From<AxiomKind> for u16 {
     }
 }
 
-// An axiom; its terms lie in a table. A function that reads one takes the table beside it: a pair of both would be made
-// for each call from the book, which holds them apart, and taken apart in it.
+/// An axiom, whose terms lie in a table and are named by their places there. What it states, with its terms as trees, is a
+/// `Rule` of specs/Forms.
 #[derive(Clone, Copy, Debug)]
 pub enum Axiom {
-    // the first concept is included in the second
+    /// The first concept is included in the second.
     Inclusion(TermId, TermId),
-    // the two concepts are equivalent
+    /// The two concepts are equivalent.
     Equivalence(TermId, TermId),
-    // the first role is included in the second
+    /// The first role is included in the second.
     RoleInclusion(RoleItem, RoleItem),
+    /// The role is transitive.
     Transitive(NameId),
+    /// The role has at most one partner for each thing.
     Functional(RoleItem),
-    // the individual is in the concept
+    /// The individual is in the concept.
     ConceptAssertion(NameId, TermId),
-    // the role relates the first individual to the second
+    /// The role relates the first individual to the second.
     RoleAssertion(NameId, NameId, NameId),
 }
 
 impl Axiom {
+    /// The kind of the axiom.
     pub fn kind(&self) -> AxiomKind
         ensures { result ≡ kind_of_axiom self.now }
     {

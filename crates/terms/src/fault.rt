@@ -2,29 +2,30 @@ ghost use Rattle.std.specs.Prelude.{◌≡◌, Some};
 ghost use Rattle.refusals.specs.Refusals.{reason_text};
 ghost use Rattle.terms.specs.Refusals.{item_refusal};
 
+use refusals::{Reason, Refusal};
 use std::error::Error;
 use std::fmt;
-use refusals::{Reason, Refusal};
 
-// The first faulty item of a body, with its offset there. An item is a code, a count, a direction byte or a
-// name number.
+/// The first faulty item of a body, with its offset in bytes there. An item is a code, a count, a direction byte or the
+/// number of a name. When each of these fits is told in `specs/Fitting`.
 #[derive(Clone, Copy, Debug, PartialEq, Eq, Hash)]
 pub enum ItemFault {
-    // a term is due with 24 others around it
+    /// A term is due with 24 others around it.
     TooDeep(usize),
-    // the body ends before or inside the item
+    /// The body ends before the item or inside it.
     CutShort(usize),
-    // the code byte is above 7
+    /// The code byte is above 7.
     UnknownCode(usize),
-    // the direction byte is above 1
+    /// The direction byte is above 1.
     UnknownDirection(usize),
-    // no name has this number, or the one that has it is of the wrong kind
+    /// No name has this number, or the one that has it is of another kind than wanted.
     WrongName(usize),
-    // the count is 0
+    /// The count is 0.
     ZeroCount(usize),
 }
 
 impl ItemFault {
+    /// The refusal that the fault is told by: its place is the item's offset. `specs/Refusals` has its reason.
     pub fn refusal(self) -> Refusal
         ensures { result ≡ item_refusal self }
     {
@@ -36,21 +37,16 @@ impl ItemFault {
             ItemFault::WrongName(at) => (Reason::WrongName, at),
             ItemFault::ZeroCount(at) => (Reason::ZeroCount, at),
         };
-        Refusal {
-            reason,
-            place,
-        }
+        Refusal { reason, place }
     }
 }
 
-// The reason in words. Each type of faults has these lines: Display cannot be written for all types of a trait at once,
-// and what a derive writes has no contract.
+/// The reason in words.
 impl fmt::Display for ItemFault {
     ghost output = { λ f. Some (reason_text (item_refusal f).reason) };
 
     fn fmt<W: fmt::Write>(&self, f: &mut fmt::Formatter<W>) -> fmt::Result {
-        let reason = self.refusal().reason;
-        write!(f, "{reason}")
+        fmt::Display::fmt(&self.refusal().reason, f)
     }
 }
 

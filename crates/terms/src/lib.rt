@@ -1,4 +1,4 @@
-// Terms and axioms of the description logic: their shapes, the table they lie in, and the codes of their format.
+//! Terms and axioms of the description logic: their shapes, the table they lie in, and the codes of their format.
 #![tactic(auto)]
 
 mod axiom;

@@ -1,11 +1,15 @@
 -- The kinds of names, and the byte that stands for each.
-use Rattle.std.specs.Prelude.{ℕ, List, codes, Bool, cond, Some, None, Option, ◌==◌}
+use Rattle.std.specs.Prelude.{ℕ, List, codes, Bool, if◌then◌else◌, Some, None, Option, ◌==◌}
 use Rattle.vocabulary.specs.declared.kind.Kind.{Kind}
 use Rattle.vocabulary.specs.declared.kind.Kind.TheVariants.{Concept, Role, Individual}
 
 -- 0 a concept, 1 a role, 2 an individual; no other byte stands for a kind
 abbrev pub kind_of : ℕ → Option Kind
-kind_of b = cond (b == 0) (Some Concept) (cond (b == 1) (Some Role) (cond (b == 2) (Some Individual) None))
+kind_of b =
+    if b == 0 then Some Concept
+    else if b == 1 then Some Role
+    else if b == 2 then Some Individual
+    else None
 
 abbrev pub code_of : Kind → ℕ
 code_of Concept = 0

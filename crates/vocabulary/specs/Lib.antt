@@ -1,5 +1,7 @@
+pub mod Limits
 pub mod Kinds
 pub mod Labels
 pub mod Entities
 pub mod Naming
 pub mod Refusals
+pub mod Fitting

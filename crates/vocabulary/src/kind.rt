@@ -1,23 +1,26 @@
 ghost use Rattle.std.specs.Prelude.{◌≡◌, Some};
-ghost use Rattle.vocabulary.specs.Entities.{kinding};
+ghost use Rattle.vocabulary.specs.Entities.{kind_or_fault};
 ghost use Rattle.vocabulary.specs.Kinds.{code_of, kind_text};
 
 use crate::fault::NameFault;
 use std::fmt;
 
-// What a name stands for: a set of things, a relation between things, or one thing.
+/// What a name stands for.
 #[derive(Clone, Copy, Debug, PartialEq, Eq, Hash)]
 pub enum Kind {
+    /// A set of things, with the byte 0.
     Concept = 0,
+    /// A relation between things, with the byte 1.
     Role,
+    /// One thing, with the byte 2.
     Individual,
 }
 
-// The kind that a byte stands for, or what is wrong with it.
+/// The kind that a byte stands for, 0 to 2, as `specs/Kinds` has it. Every other byte is refused as `BadKind`.
 impl TryFrom<u8> for Kind {
     type Error = NameFault;
 
-    ghost try_from_gives = { λ byte r. r ≡ kinding byte };
+    ghost try_from_gives = { λ byte r. r ≡ kind_or_fault byte };
 
     fn try_from(byte: u8) -> Result<Kind, NameFault> {
         match byte {
@@ -29,7 +32,7 @@ impl TryFrom<u8> for Kind {
     }
 }
 
-// The byte that stands for a kind.
+/// The byte that stands for a kind.
 impl From<Kind> for u8 {
     ghost from_gives = { λ kind byte. byte ≡ code_of kind };
 
@@ -38,6 +41,7 @@ impl From<Kind> for u8 {
     }
 }
 
+/// The kind by its word.
 impl fmt::Display for Kind {
     ghost output = { λ kind. Some (kind_text kind) };
 

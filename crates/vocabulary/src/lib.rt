@@ -1,4 +1,4 @@
-// The names of a rule book: kinds, labels, and the table that numbers them.
+//! The names of a rule book: kinds, labels, and the table that numbers them.
 #![tactic(auto)]
 
 mod fault;
@@ -7,8 +7,8 @@ mod label;
 mod name;
 mod table;
 
-pub use fault::NameFault;
+pub use fault::{NameFault, NoSuchName};
 pub use kind::Kind;
 pub use label::Label;
 pub use name::{Name, NameId};
-pub use table::{MOST_NAMES, NoSuchName, Vocabulary};
+pub use table::{MOST_NAMES, Vocabulary};
