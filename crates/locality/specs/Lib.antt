@@ -1,11 +1,10 @@
 pub mod Worlds
 pub mod Meaning
 pub mod Mentions
-pub mod Counts
 pub mod Laws
+pub mod Defaults
+pub mod Flags
 pub mod Tables
 pub mod SingleTerms
-pub mod Keeps
-pub mod Depends
-pub mod Shrinks
-pub mod Sound
+pub mod SmallWorlds
+pub mod lemmas

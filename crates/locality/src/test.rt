@@ -1,46 +1,37 @@
-ghost use Rattle.std.specs.Prelude.{◌≡◌, Bool, true};
-ghost use Rattle.terms.specs.Forms.{Rule, rule};
-ghost use Rattle.terms.specs.Tables.{nodes_of};
-ghost use Rattle.locality.specs.Counts.{counts_fit};
-ghost use Rattle.locality.specs.Laws.{TestLaws};
-ghost use Rattle.locality.specs.Tables.{listed_in, default_of, local_rule};
-ghost use Rattle.locality.specs.Worlds.{Names, Default};
-ghost use Rattle.locality.specs.Keeps.{keeps_laws};
+ghost use Rattle.std.specs.Prelude.{◌≡◌};
+ghost use Rattle.locality.specs.Defaults.{concepts_of, roles_of};
 
-use crate::checks::Checks;
-use crate::filling::Filling;
-use terms::{Axiom, Terms};
+use crate::defaults::{ConceptDefault, RoleDefault};
 
-// A locality test: it says of an axiom whether it is local with respect to a list of names. It has no refusals.
-pub trait LocalityTest {
-    ghost local: { Self → Rule → Names → Bool };
-
-    // what names outside the list are set to
-    ghost default: { Self → Default };
-
-    fn is_local(&self, terms: &Terms, axiom: Axiom, listed: &[bool]) -> bool
-        ensures value { result ≡ local self.now (rule (nodes_of terms.now) «axiom») (listed_in listed.now) }
-        // every axiom in a table has counts of at least 1, as the law of worlds asks
-        ensures counts { counts_fit (rule (nodes_of terms.now) «axiom») ≡ true };
-
-    ghost keeps: { (t : Self) → TestLaws (local t) (default t) };
+/// The locality tests that have a word. A test is what it sets the concepts and the roles outside
+/// the list to; by that alone docs/LOCALITY.md and specs/Tables.antt say which axioms are local.
+#[derive(Clone, Copy, Debug, Default, PartialEq, Eq, Hash)]
+pub enum Test {
+    /// Concepts and roles outside the list are empty. It is the default, where no test is named.
+    #[default]
+    Bottom,
+    /// Concepts outside the list have all elements, roles outside it all pairs.
+    Top,
 }
 
-// The bottom test and the top test.
-impl LocalityTest for Filling {
-    ghost local = { λ t r listed. local_rule t listed r };
+impl Test {
+    /// What the concepts outside the list are set to.
+    pub fn concepts(self) -> ConceptDefault
+        ensures { result ≡ concepts_of self }
+    {
+        match self {
+            Test::Bottom => ConceptDefault::Empty,
+            Test::Top => ConceptDefault::Full,
+        }
+    }
 
-    ghost default = { default_of };
-
-    ghost keeps = { keeps_laws };
-
-    #[tactic(auto, using(crate::proofs::Tabled::rule_counts))]
-    fn is_local(&self, terms: &Terms, axiom: Axiom, listed: &[bool]) -> bool {
-        let checks = Checks {
-            filling: *self,
-            terms,
-            listed,
-        };
-        checks.is_local(axiom)
+    /// What the roles outside the list are set to.
+    pub fn roles(self) -> RoleDefault
+        ensures { result ≡ roles_of self }
+    {
+        match self {
+            Test::Bottom => RoleDefault::Empty,
+            Test::Top => RoleDefault::Full,
+        }
     }
 }
