@@ -13,11 +13,13 @@ pub(crate) struct BodyReader<'a> {
 }
 
 impl BodyReader<'_> {
+    ghost use Rattle.codec.specs.Numbers.{read_any_name};
     ghost use Rattle.codec.specs.Steps.{Does, bytes, entities_of};
 
     // One byte of the item that begins at `start`.
     fn byte(&mut self, start: usize) -> Result<u8, ItemFault>
-        ensures { Does (λ x. x) self.old result self.new (read_byte (bytes self.old) start self.old.at) }
+        ensures { Does (λ x. x) self.old result self.new
+            (read_byte (bytes self.old) start self.old.at) }
     {
         let byte = *self.body.get(self.at).ok_or(ItemFault::CutShort(start))?;
         self.at += 1;
@@ -26,7 +28,8 @@ impl BodyReader<'_> {
 
     // Two bytes, the low one first.
     fn number(&mut self) -> Result<u16, ItemFault>
-        ensures { Does (λ x. x) self.old result self.new (read_number (bytes self.old) self.old.at) }
+        ensures { Does (λ x. x) self.old result self.new
+            (read_number (bytes self.old) self.old.at) }
     {
         let start = self.at;
         let low = self.byte(start)?;
@@ -36,11 +39,26 @@ impl BodyReader<'_> {
 
     // The number of a name of the kind wanted.
     pub(crate) fn name(&mut self, kind: Kind) -> Result<NameId, ItemFault>
-        ensures { Does (λ x. x) self.old result self.new (read_name (bytes self.old) (entities_of self.old) kind self.old.at) }
+        ensures { Does (λ x. x) self.old result self.new
+            (read_name (bytes self.old) (entities_of self.old) kind self.old.at) }
     {
         let start = self.at;
         let id = NameId(self.number()?);
         if self.names.kind_of(id) == Some(kind) {
+            Ok(id)
+        } else {
+            Err(ItemFault::WrongName(start))
+        }
+    }
+
+    // The number of a name of any kind.
+    pub(crate) fn any_name(&mut self) -> Result<NameId, ItemFault>
+        ensures { Does (λ x. x) self.old result self.new
+            (read_any_name (bytes self.old) (entities_of self.old) self.old.at) }
+    {
+        let start = self.at;
+        let id = NameId(self.number()?);
+        if usize::from(id.0) < self.names.count() {
             Ok(id)
         } else {
             Err(ItemFault::WrongName(start))
@@ -57,7 +75,8 @@ impl BodyReader<'_> {
     }
 
     fn direction(&mut self) -> Result<Direction, ItemFault>
-        ensures { Does (λ x. x) self.old result self.new (read_direction (bytes self.old) self.old.at) }
+        ensures { Does (λ x. x) self.old result self.new
+            (read_direction (bytes self.old) self.old.at) }
     {
         let start = self.at;
         let byte = self.byte(start)?;
@@ -66,7 +85,8 @@ impl BodyReader<'_> {
 
     // How many partners "at least" asks for.
     pub(crate) fn count(&mut self) -> Result<Count, ItemFault>
-        ensures { Does (λ c. c.value) self.old result self.new (read_count (bytes self.old) self.old.at) }
+        ensures { Does (λ c. c.value) self.old result self.new
+            (read_count (bytes self.old) self.old.at) }
     {
         let start = self.at;
         let value = self.number()?;
@@ -75,7 +95,8 @@ impl BodyReader<'_> {
 
     // A direction and a role.
     pub(crate) fn role_item(&mut self) -> Result<RoleItem, ItemFault>
-        ensures { Does (λ x. x) self.old result self.new (read_role (bytes self.old) (entities_of self.old) self.old.at) }
+        ensures { Does (λ x. x) self.old result self.new
+            (read_role (bytes self.old) (entities_of self.old) self.old.at) }
     {
         let direction = self.direction()?;
         let role = self.name(Kind::Role)?;

@@ -1,5 +1,5 @@
 ghost use Rattle.std.specs.Prelude.{◌≡◌, ◌+◌, ◌-◌, ◌≤◌, length};
-ghost use Rattle.terms.specs.Forms.{form, meaning, rule, shape};
+ghost use Rattle.terms.specs.Limits.{most_nodes};
 ghost use Rattle.terms.specs.Reading.{read_axiom, read_rest, read_term, read_whole};
 ghost use Rattle.terms.specs.Tables.{nodes_of};
 
@@ -12,16 +12,17 @@ use vocabulary::Kind;
 pub(crate) struct TermReader<'a> {
     pub(crate) items: BodyReader<'a>,
     pub(crate) terms: &'a mut Terms,
-    ghost room: { length (nodes_of terms.now) + (length items.body.now - items.at) ≤ 33280 },
+    ghost room: { length (nodes_of terms.now) + (length items.body.now - items.at) ≤ most_nodes },
 }
 
 impl TermReader<'_> {
-    ghost use Rattle.codec.specs.Building.{Grows, bytes_of, names_of};
+    ghost use Rattle.codec.specs.Building.{Grows, LaysTerm, LaysInner, LaysAxiom, bytes_of, names_of};
 
     // A term, where so many levels are still allowed.
     #[cycle(after_code_term)]
     fn term(&mut self, allowed: u8) -> Result<TermId, ItemFault>
-        ensures { Grows (form allowed) self.old result self.new (read_term (bytes_of self.old) (names_of self.old) allowed self.old.items.at) }
+        ensures { Grows LaysTerm self.old result self.new
+            (read_term (bytes_of self.old) (names_of self.old) allowed self.old.items.at) }
     {
         if allowed == 0 {
             return Err(ItemFault::TooDeep(self.items.at));
@@ -34,7 +35,10 @@ impl TermReader<'_> {
     // The node that a code begins; the terms inside it have so many levels left.
     #[cycle(after_code_term)]
     fn after_code(&mut self, allowed: u8, code: Code) -> Result<Term, ItemFault>
-        ensures { Grows (λ ts. shape (form allowed ts)) self.old result self.new (read_rest (bytes_of self.old) (names_of self.old) (read_term (bytes_of self.old) (names_of self.old) allowed) code self.old.items.at) }
+        ensures { Grows LaysInner self.old result self.new
+            (read_rest (bytes_of self.old) (names_of self.old)
+            (read_term (bytes_of self.old) (names_of self.old) allowed)
+            code self.old.items.at) }
     {
         match code {
             Code::Nothing => Ok(Term::Nothing),
@@ -63,7 +67,8 @@ impl TermReader<'_> {
 
     // A term of an axiom, of at most 24 levels.
     fn whole(&mut self) -> Result<TermId, ItemFault>
-        ensures { Grows meaning self.old result self.new (read_whole (bytes_of self.old) (names_of self.old) self.old.items.at) }
+        ensures { Grows LaysTerm self.old result self.new
+            (read_whole (bytes_of self.old) (names_of self.old) self.old.items.at) }
     {
         self.term(MOST_LEVELS)
     }
@@ -71,7 +76,8 @@ impl TermReader<'_> {
     // The items of an axiom, from the body's beginning.
     pub(crate) fn axiom(&mut self, kind: AxiomKind) -> Result<Axiom, ItemFault>
         requires { self.old.items.at ≡ 0 }
-        ensures { Grows rule self.old result self.new (read_axiom (bytes_of self.old) (names_of self.old) kind) }
+        ensures { Grows LaysAxiom self.old result self.new
+            (read_axiom (bytes_of self.old) (names_of self.old) kind) }
     {
         match kind {
             AxiomKind::Inclusion => {

@@ -1,3 +1,3 @@
 pub mod Placing
 pub mod Sinks
-pub mod Laws
+pub mod lemmas

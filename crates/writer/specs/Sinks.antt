@@ -1,12 +1,12 @@
 -- What bytes do to a cursor, and to a count.
-use Rattle.std.specs.Prelude.{◌≡◌, ℕ, ◌+◌, ◌-◌, ◌<◌, ◌^◌, cond, List, length, min, Some, None, Option, nat_le}
+use Rattle.std.specs.Prelude.{◌≡◌, ℕ, ◌+◌, ◌-◌, ◌<◌, ◌^◌, if◌then◌else◌, List, length, min, Some, None, Option, nat_le}
 use Rattle.writer.specs.declared.sink.Cursor.{Cursor}
 use Rattle.writer.specs.declared.sink.Length.{Length}
 use Rattle.writer.specs.Placing.{overlay}
 
 -- the place after so many bytes in a buffer of so many; None where the room is short
 abbrev pub place_after : Option ℕ → ℕ → ℕ → Option ℕ
-place_after (Some at) count size = cond (nat_le count (size - at)) (Some (at + count)) None
+place_after (Some at) count size = if nat_le count (size - at) then Some (at + count) else None
 place_after None count size = None
 
 -- a buffer with the bytes from a place on

@@ -7,6 +7,7 @@ ghost use Rattle.writer.specs.Placing.{Writes};
 use crate::sink::{Cursor, Sink};
 use terms::{Axiom, Code, Direction, MOST_LEVELS, RoleItem, Term, TermId, Terms};
 
+// A role item: its direction, then its role.
 fn put_role<S: Sink>(sink: &mut S, item: RoleItem)
     ensures { S.takes sink.old (role_bytes item) sink.new }
 {
@@ -67,7 +68,7 @@ fn put_whole<S: Sink>(sink: &mut S, terms: &Terms, id: TermId)
     put_term(sink, terms, id, MOST_LEVELS);
 }
 
-// The body of an axiom.
+/// Puts the body of an axiom, whose terms lie in a table, into a sink. Its bytes are those of `specs/Writing` of terms.
 pub fn put_axiom<S: Sink>(sink: &mut S, terms: &Terms, axiom: Axiom)
     ensures { S.takes sink.old (body_bytes (rule (nodes_of terms.now) «axiom»)) sink.new }
 {
@@ -98,9 +99,8 @@ pub fn put_axiom<S: Sink>(sink: &mut S, terms: &Terms, axiom: Axiom)
     }
 }
 
-// The body of an axiom, from a place in a buffer on, as far as there is room. Answers the place after it, or None where
-// the room is short. It takes the buffer and the place, and no sink, since that what is written is read back is told of a
-// buffer.
+/// Writes the body of an axiom, from a place in a buffer on, as far as there is room. Answers the place behind it, or None
+/// where the room is short. What was written is read back, as `specs/Placing` says.
 pub fn write_axiom(terms: &Terms, axiom: Axiom, out: &mut [u8], at: usize) -> Option<usize>
     ensures { Writes (rule (nodes_of terms.now) «axiom») out.old at result out.new }
 {

@@ -1,4 +1,4 @@
-// Writes the bodies of axioms, and bytes of all sorts, into a buffer, or counts them.
+//! Writes the bodies of axioms, and bytes of all sorts, into a buffer, or counts them.
 #![tactic(auto)]
 
 mod axioms;

@@ -1,13 +1,15 @@
 ghost use Rattle.std.specs.Prelude.{◌≡◌, ℕ, List, [], ◌∷◌, ◌++◌};
-ghost use Rattle.terms.specs.Writing.{two_bytes};
-ghost use Rattle.writer.specs.Laws.{took_nothing, took_more, counted_nothing, counted_more};
+ghost use Rattle.terms.specs.Numbers.{two_bytes};
 ghost use Rattle.writer.specs.Sinks.{Took, Counted};
+ghost use Rattle.writer.specs.lemmas.Sinks.{took_nothing, took_more, counted_nothing, counted_more};
 
-// Takes bytes, one after the other.
+/// What takes bytes, one after the other. What a sink is after some bytes is told by its `takes`, for a cursor and for a
+/// count in `specs/Sinks`.
 pub trait Sink {
     // these bytes lead from the first state to the last
     ghost takes: { Self → List ℕ → Self → Type 0 };
 
+    /// Takes a byte.
     fn put(&mut self, byte: u8)
         ensures { takes self.old (byte ∷ []) self.new };
 
@@ -15,8 +17,10 @@ pub trait Sink {
     ghost nothing: { (s : Self) → takes s [] s };
 
     // bytes, and more bytes after them
-    ghost more: { (s m t : Self) (xs ys zs : List ℕ) → takes s xs m → takes m ys t → zs ≡ xs ++ ys → takes s zs t };
+    ghost more: { (s m t : Self) (xs ys zs : List ℕ) →
+        takes s xs m → takes m ys t → zs ≡ xs ++ ys → takes s zs t };
 
+    /// Takes bytes in their order.
     final fn put_all(&mut self, bytes: &[u8])
         ensures { takes self.old bytes.now self.new }
     {
@@ -25,7 +29,7 @@ pub trait Sink {
         }
     }
 
-    // The low byte first.
+    /// Takes a number of two bytes, the low one first.
     final fn put_number(&mut self, number: u16)
         ensures { takes self.old (two_bytes number) self.new }
     {
@@ -33,13 +37,16 @@ pub trait Sink {
     }
 }
 
-// A place in a buffer, where the next byte goes. It is None from the first byte on that had no room.
+/// A place in a buffer, where the next byte goes.
 #[derive(Drop)]
 pub struct Cursor<'a> {
+    /// The buffer.
     pub out: &'a mut [u8],
+    /// The place of the next byte; None from the first byte on that had no room.
     pub at: Option<usize>,
 }
 
+/// A byte goes to the cursor's place, if it lies in the buffer.
 impl Sink for Cursor<'_> {
     ghost takes = { Took };
 
@@ -51,7 +58,6 @@ impl Sink for Cursor<'_> {
         let Some(at) = self.at else {
             return;
         };
-        // by its index: what the buffer holds after a write through `get_mut` is left open here
         if at < self.out.len() {
             self.out[at] = byte;
             self.at = Some(at + 1);
@@ -61,12 +67,14 @@ impl Sink for Cursor<'_> {
     }
 }
 
-// How many bytes there were, up to the greatest number that a usize holds.
+/// How many bytes there were.
 #[derive(Clone, Copy, Debug, Default, PartialEq, Eq, Hash)]
 pub struct Length {
+    /// Their count, up to the greatest number that a usize holds.
     pub bytes: usize,
 }
 
+/// A byte is counted, and not kept.
 impl Sink for Length {
     ghost takes = { Counted };
 

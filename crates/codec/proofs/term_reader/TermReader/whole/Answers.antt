@@ -1,7 +1,6 @@
-use Rattle.terms.specs.Forms.{meaning}
 use Rattle.terms.specs.Reading.{read_whole}
 use Rattle.codec.proofs.term_reader.TermReader.whole.Goals as goal
 
 pub returns : goal.returns
-unfolding meaning read_whole
+unfolding read_whole
 returns c = record { table = c.term.ensures.table; builds = c.term.ensures.builds }

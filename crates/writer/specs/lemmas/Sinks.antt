@@ -1,4 +1,4 @@
--- A cursor and a count keep the laws of a sink.
+-- A cursor and a count keep the laws of a sink, which their `impl`s name.
 use Rattle.std.specs.Prelude.{◌≡◌, ℕ, ◌+◌, ◌-◌, ◌≤◌, cond, List, [], ◌∷◌, ◌++◌, length, Some, None, Option, nat_le}
 use Rattle.std.proofs.Common.{Bool, true, false, refl, sym, ap, ap₂, ◌∙◌, set, add-zero, arith, length-append, length-set, leb-false}
 use Rattle.std.proofs.lemmas.Bool.{leb-true}
