@@ -12,9 +12,9 @@ use Rattle.vocabulary.specs.declared.fault.NameFault.{NameFault}
 use Rattle.vocabulary.specs.declared.fault.NameFault.TheVariants.{LabelTaken, TableFull}
 use Rattle.vocabulary.specs.declared.kind.Kind.{Kind}
 use Rattle.vocabulary.specs.declared.name.NameId.{NameId}
-use Rattle.vocabulary.specs.Entities.{Entity, reseed, kinding, labelling, held}
-use Rattle.refusals.specs.Turns.{accepted, refused}
-use Rattle.vocabulary.specs.Naming.{naming, naming_with, fresh}
+use Rattle.vocabulary.specs.Entities.{Entity, reseed, kind_or_fault, label_or_fault, is_taken}
+use Rattle.refusals.specs.Turns.{accepted_turn, refused_turn}
+use Rattle.vocabulary.specs.Naming.{naming, naming_turn, new_name}
 use Rattle.vocabulary.proofs.Kept.{reseed_kinds}
 use Rattle.terms.specs.declared.«axiom».AxiomKind.{AxiomKind}
 use Rattle.terms.specs.declared.term.Term.{Term}
@@ -82,12 +82,12 @@ filings_reforce ts [] k f g on h e s = absurd (omega arith)
 filings_reforce ts (x ∷ fs) zero f g on h e s = ap (λ d. d ∷ map (filing ts) fs) (s ∙ ap (λ (y : Filed). record { states = rule ts y.«axiom»; in_force = on }) e)
 filings_reforce ts (x ∷ fs) (suc k) f g on h e s = ap (λ l. filing ts x ∷ l) (filings_reforce ts fs k f g on (omega arith) e s)
 
-reforce_total : (fs : List Filing) (k : ℕ) (on : Bool) → bodies_length (reforce fs k on) ≡ bodies_length fs
+pub reforce_total : (fs : List Filing) (k : ℕ) (on : Bool) → bodies_length (reforce fs k on) ≡ bodies_length fs
 reforce_total [] k on = refl
 reforce_total (f ∷ fs) zero on = refl
 reforce_total (f ∷ fs) (suc k) on = sum_by-cons body_length f (reforce fs k on) ∙ ap (λ n. body_length f + n) (reforce_total fs k on) ∙ sym (sum_by-cons body_length f fs)
 
-reforce_right : (names : List Entity) (fs : List Filing) (k : ℕ) (on : Bool) → list_all (sound names) (reforce fs k on) ≡ list_all (sound names) fs
+pub reforce_right : (names : List Entity) (fs : List Filing) (k : ℕ) (on : Bool) → list_all (sound names) (reforce fs k on) ≡ list_all (sound names) fs
 reforce_right names [] k on = refl
 reforce_right names (f ∷ fs) zero on = refl
 reforce_right names (f ∷ fs) (suc k) on = ap (λ b. sound names f && b) (reforce_right names fs k on)
@@ -150,20 +150,20 @@ whole_reseed {names} {later} {ts} {fs} {bytes} n on e w = record {
 -- naming adds a name, or none
 grown_by_naming : (es : List Entity) (k : ℕ) (l : List ℕ) → (more : List Entity) × ((naming es k l).state ≡ es ++ more)
 unfolding naming
-grown_by_naming es k l = by_kind (kinding k) (labelling l)
+grown_by_naming es k l = by_kind (kind_or_fault k) (label_or_fault l)
   where
     none : es ≡ es ++ []
     none = sym (append-nil es)
 
-    by_held : (kind : Kind) (label : List ℕ) (a b : Bool) → (more : List Entity) × ((cond a (refused {A = NameId} es LabelTaken) (cond b (refused es TableFull) (accepted (es ++ fresh kind label ∷ []) (record { 0 = length es })))).state ≡ es ++ more)
+    by_held : (kind : Kind) (label : List ℕ) (a b : Bool) → (more : List Entity) × ((cond a (refused_turn {A = NameId} es LabelTaken) (cond b (refused_turn es TableFull) (accepted_turn (es ++ new_name kind label ∷ []) (record { 0 = length es })))).state ≡ es ++ more)
     by_held kind label true b = ([], none)
     by_held kind label false true = ([], none)
-    by_held kind label false false = (fresh kind label ∷ [], refl)
+    by_held kind label false false = (new_name kind label ∷ [], refl)
 
-    by_kind : (o : Result Kind NameFault) (r : Result (List ℕ) NameFault) → (more : List Entity) × ((naming_with es o r).state ≡ es ++ more)
+    by_kind : (o : Result Kind NameFault) (r : Result (List ℕ) NameFault) → (more : List Entity) × ((naming_turn es o r).state ≡ es ++ more)
     by_kind (Err f) r = ([], none)
     by_kind (Ok kind) (Err f) = ([], none)
-    by_kind (Ok kind) (Ok label) = by_held kind label (held kind label es) (leb 1024 (length es))
+    by_kind (Ok kind) (Ok label) = by_held kind label (is_taken kind label es) (leb 1024 (length es))
 
 pub whole_naming : {names later : List Entity} {ts : List Term} {fs : List Filed} {bytes : ℕ} (k : ℕ) (l : List ℕ) → later ≡ (naming names k l).state → Whole names ts fs bytes → Whole later ts fs bytes
 whole_naming {names} {later} {ts} {fs} {bytes} k l e w =

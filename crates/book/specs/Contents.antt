@@ -5,6 +5,7 @@ use Rattle.terms.specs.declared.term.Term.{Term}
 use Rattle.terms.specs.Forms.{Rule, rule}
 use Rattle.terms.specs.Writing.{body_bytes}
 use Rattle.terms.specs.WellFormed.{well_formed}
+use Rattle.codec.specs.Bodies.{longest_body}
 use Rattle.book.specs.declared.book.Filed.{Filed}
 
 -- an axiom of a book, and whether it is in force
@@ -27,9 +28,9 @@ body_length f = length (body_bytes f.states)
 abbrev pub bodies_length : List Filing → ℕ
 bodies_length fs = sum_by body_length fs
 
--- each number in the axiom belongs to a name of the kind wanted, and its body has at most 512 bytes
+-- each number in the axiom belongs to a name of the kind wanted, and its body has at most `longest_body` bytes
 abbrev pub sound : List Entity → Filing → Bool
-sound names f = well_formed names f.states && nat_le (body_length f) 512
+sound names f = well_formed names f.states && nat_le (body_length f) longest_body
 
 -- the axiom stays what it is, whatever terms are added to the table
 abbrev pub Firm : List Term → Filed → Type 0

@@ -1,3 +1,6 @@
+pub mod Limits
 pub mod Refusals
 pub mod Contents
 pub mod Calls
+pub mod Proper
+pub mod Fitting

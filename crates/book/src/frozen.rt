@@ -20,9 +20,13 @@ impl Model for AtRest {
 }
 
 impl AtRest {
-    /// The book.
+    ghost use Rattle.book.specs.Calls.{contents};
+    ghost use Rattle.book.specs.Proper.{Proper};
+
+    /// The book. It keeps every kind and every limit, as `specs/Proper` says.
     pub fn book(&self) -> &Book
-        ensures { result.now ≡ self.now }
+        ensures value { result.now ≡ self.now }
+        ensures proper { Proper (contents result.now) }
     {
         &self.book
     }
@@ -43,7 +47,7 @@ impl Model for Frozen {
 }
 
 impl Frozen {
-    /// A frozen book of this book.
+    // A frozen book of this book.
     pub(crate) fn of(book: Book) -> Frozen
         ensures { result ≡ book }
     {

@@ -1,4 +1,4 @@
-// The rule book: its contents, and the calls that a draft and a frozen book allow.
+//! The rule book: its contents, and the calls that a draft and a frozen book allow.
 #![tactic(auto)]
 
 mod book;
@@ -6,7 +6,7 @@ mod draft;
 mod fault;
 mod frozen;
 
-pub use book::{AxiomId, Book, Filed, LONGEST_BODY, MOST_AXIOMS};
+pub use book::{AxiomId, Book, Filed, MOST_AXIOMS, MOST_BYTES};
 pub use draft::Draft;
-pub use fault::{BookFault, FileFault};
+pub use fault::{AxiomFault, FileFault, NoSuchAxiom};
 pub use frozen::{AtRest, Frozen};

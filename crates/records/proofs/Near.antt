@@ -1,123 +1,160 @@
--- The place of a record's fault lies within its body.
-use Rattle.std.proofs.Common.{IfErr, ◌≡◌, ℕ, ◌+◌, ◌*◌, ◌≤◌, Bool, true, false, cond, eqb, ltb, leb, List, [], ◌∷◌, length, Some, None, Ok, Err, Option, Result, sym, refl, arith, ltb-true}
-use Rattle.std.proofs.lemmas.Result.{IfErr-at_err}
+-- A record that is refused changes nothing, and the place of its fault lies within its body or right behind it.
+use Rattle.std.proofs.Common.{◌≡◌, ℕ, ◌+◌, ◌≤◌, Bool, true, false, cond, ltb, leb, List, [], ◌∷◌, ◌++◌, length, Some, None, Ok, Err, Option, Result, sym, refl, ap, ◌∙◌, subst, arith, ltb-true}
 use Rattle.vocabulary.specs.declared.fault.NameFault.{NameFault}
 use Rattle.vocabulary.specs.declared.fault.NameFault.TheVariants.{BadKind, LabelLength, LabelByte, LabelTaken, TableFull}
-use Rattle.vocabulary.specs.declared.name.NameId.{NameId}
-use Rattle.refusals.specs.declared.refusal.Refusal.{Refusal}
-use Rattle.refusals.specs.Turns.{Turn, refused, accepted}
-use Rattle.vocabulary.specs.Naming.{naming}
+use Rattle.vocabulary.specs.declared.fault.NoSuchName.{NoSuchName}
+use Rattle.vocabulary.specs.declared.kind.Kind.{Kind}
+use Rattle.vocabulary.specs.Entities.{Entity, kind_or_fault, label_or_fault, reseed}
+use Rattle.vocabulary.specs.Naming.{naming, naming_turn, new_name}
 use Rattle.vocabulary.specs.Refusals.{name_refusal}
-use Rattle.vocabulary.specs.Entities.{reseed}
+use Rattle.refusals.specs.Turns.{Turn, refused_turn, accepted_turn}
 use Rattle.terms.specs.declared.«axiom».AxiomKind.{AxiomKind}
 use Rattle.terms.specs.declared.fault.ItemFault.TheVariants as Item'
-use Rattle.terms.specs.Codes.{axiom_kind_of}
 use Rattle.terms.specs.Forms.{Rule}
+use Rattle.terms.specs.Numbers.{number_of}
 use Rattle.terms.specs.Reading.{Outcome, got, bad, read_axiom}
 use Rattle.terms.proofs.Within.{fault_within}
-use Rattle.book.specs.declared.fault.BookFault.{BookFault}
-use Rattle.book.specs.declared.fault.BookFault.TheVariants.{Item, Name, LeftOver, AxiomsFull, BytesFull}
-use Rattle.book.specs.declared.fault.FileFault.{FileFault}
-use Rattle.book.specs.declared.fault.FileFault.TheVariants.{NotEmpty, CutShort, UnknownKind, BodyTooLong, Book}
-use Rattle.book.specs.Contents.{Contents, bodies_length}
-use Rattle.book.specs.Calls.{raise, filing_call, filing_of, admission, admitting, adding, obstacle_of}
-use Rattle.book.specs.Refusals.{book_refusal, file_refusal}
-use Rattle.records.specs.Files.{Entry}
-use Rattle.records.specs.Loading.{Taking, done, taken_as, name_record, seed_item, seed_record, bounded, record_turn}
-use Rattle.records.specs.Places.{place_in}
+use Rattle.codec.specs.Bodies.{longest_body}
+use Rattle.book.specs.declared.fault.AxiomFault.{AxiomFault}
+use Rattle.book.specs.declared.fault.AxiomFault.TheVariants as Axiom'
+use Rattle.book.specs.Contents.{Contents}
+use Rattle.book.specs.Calls.{with_fault, naming_call, seeding_call, axiom_call, items_call, with_axiom}
+use Rattle.book.specs.Refusals.{axiom_refusal}
+use Rattle.records.specs.declared.fault.RecordFault.{RecordFault}
+use Rattle.records.specs.declared.fault.RecordFault.TheVariants as Record'
+use Rattle.records.specs.declared.fault.SeedFault.{SeedFault}
+use Rattle.records.specs.declared.fault.SeedFault.TheVariants.{Item, LeftOver}
+use Rattle.records.specs.declared.kind.RecordKind.{RecordKind}
+use Rattle.records.specs.declared.kind.RecordKind.TheVariants as Kind'
+use Rattle.records.specs.Faults.{seed_refusal, place_in}
+use Rattle.records.specs.Files.{Entry, head_length}
+use Rattle.records.specs.Kinds.{record_kind_of}
+use Rattle.records.specs.Loading.{Taking, without_value, taken_as, name_turn, missing_name, seed_call, seed_turn, body_turn, short_turn, known_turn, record_turn}
+use Rattle.records.proofs.Asked.{read_any_name-two}
 
--- a fault's place is at most n
-abbrev Near : {A F : Type 0} → (F → Refusal) → ℕ → Result A F → Type 0
-Near refusal n r = IfErr r (λ f. (refusal f).place ≤ n)
+-- a fault's place is at most n, and nothing is changed
+pub record IsNear {S A F : Type 0} (place : F → ℕ) (n : ℕ) (s : S) (t : Turn S (Result A F)) : Type 0 where
+  pub near : (f : F) → t.answer ≡ Err f → place f ≤ n
+  pub same : (f : F) → t.answer ≡ Err f → t.state ≡ s
 
-raised : {A F G : Type 0} (refusal : G → Refusal) (up : F → G) (n : ℕ) (r : Result A F) → Near (λ f. refusal (up f)) n r → Near refusal n (raise up r)
-raised refusal up n (Ok x) h = tt
-raised refusal up n (Err f) h = h
+-- a refusal, and an acceptance
+refuses_near : {S A F : Type 0} (place : F → ℕ) (n : ℕ) (s : S) (fault : F) → place fault ≤ n → IsNear {A = A} place n s (refused_turn s fault)
+refuses_near place n s fault h = record {
+  near = λ f e. let is : fault ≡ f = cc in subst (λ g. place g ≤ n) is h;
+  same = λ f e. refl;
+}
 
-done_near : {A F : Type 0} (refusal : F → Refusal) (n : ℕ) (r : Result A F) → Near refusal n r → Near refusal n (done r)
-done_near refusal n (Ok x) h = tt
-done_near refusal n (Err f) h = h
+accepts_near : {S A F : Type 0} (place : F → ℕ) (n : ℕ) (s t : S) (x : A) → IsNear {F = F} place n s (accepted_turn t x)
+accepts_near place n s t x = record { near = λ f e. absurd (cc); same = λ f e. absurd (cc) }
 
--- a test that refuses at the record, or goes on
-test_near : {A F : Type 0} (refusal : F → Refusal) (n : ℕ) (b : Contents) (f : F) (s : Bool) (t : Turn Contents (Result A F)) → (refusal f).place ≡ 0 → Near refusal n t.answer → Near refusal n (cond s (refused b f) t).answer
-test_near refusal n b f true t e h = omega (arith, e)
-test_near refusal n b f false t e h = h
+-- a test that refuses, or goes on
+test_near : {S A F : Type 0} (place : F → ℕ) (n : ℕ) (s : S) (fault : F) (t : Bool) (turn : Turn S (Result A F)) → (t ≡ true → place fault ≤ n) → IsNear place n s turn → IsNear place n s (cond t (refused_turn s fault) turn)
+test_near place n s fault true turn h i = refuses_near place n s fault (h refl)
+test_near place n s fault false turn h i = i
 
-bounded_near : (b : Contents) (body : List ℕ) (t : Taking BookFault) → Near book_refusal (length body) t.answer → Near file_refusal (length body) (bounded b body t).answer
-bounded_near b body t h =
-    test_near file_refusal _ b BodyTooLong (ltb 512 (length body)) (taken_as Book t) refl
-    (done_near file_refusal _ (raise Book t.answer) (raised file_refusal Book _ t.answer h))
-
-named_near : (n : ℕ) (r : Result NameId NameFault) → Near name_refusal n r
-named_near n (Ok x) = tt
-named_near n (Err BadKind) = omega arith
-named_near n (Err LabelLength) = omega arith
-named_near n (Err LabelByte) = omega arith
-named_near n (Err LabelTaken) = omega arith
-named_near n (Err TableFull) = omega arith
-
-name_near : (b : Contents) (body : List ℕ) → Near book_refusal (length body) (name_record b body).answer
-name_near b [] = omega arith
-name_near b (k ∷ l) =
-    let r = (naming b.names k l).answer in
-    done_near book_refusal _ (raise (λ f. f) (raise Name r)) (raised book_refusal (λ f. f) _ (raise Name r) (raised book_refusal Name _ r (named_near _ r)))
-
-item_near : (b : Contents) (n : ℕ) (rest : List ℕ) (size : ℕ) → 2 ≤ size → Near book_refusal size (seed_item b n rest).answer
-item_near b n [] size h = go (ltb n (length b.names))
+-- told at the layer above
+lifted_near : {A F G : Type 0} (up : F → G) (place : F → ℕ) (higher : G → ℕ) (n m : ℕ) → ((f : F) → place f ≤ n → higher (up f) ≤ m) → (b : Contents) (t : Turn Contents (Result A F)) → IsNear place n b t → IsNear higher m b (taken_as up t)
+lifted_near {A} {F} {G} up place higher n m more b t i = go t.answer refl
   where
-    go : (s : Bool) → Near book_refusal size (cond {A = Taking BookFault} s (accepted (record { names = reseed b.names n true; axioms = b.axioms }) tt) (refused b (Item (Item'.WrongName 0)))).answer
-    go true = tt
-    go false = omega arith
-item_near b n (x ∷ rest) size h = go (ltb n (length b.names))
+    go : (r : Result A F) → t.answer ≡ r → IsNear higher m b (taken_as up t)
+    go (Ok x) e = record {
+      near = λ f h. absurd (let told : Ok tt ≡ Err f = sym (ap (λ r. without_value (with_fault up r)) e) ∙ h in cc);
+      same = λ f h. absurd (let told : Ok tt ≡ Err f = sym (ap (λ r. without_value (with_fault up r)) e) ∙ h in cc);
+    }
+    go (Err g) e = record {
+      near = λ f h. let told : Err (up g) ≡ Err f = sym (ap (λ r. without_value (with_fault up r)) e) ∙ h in let is : up g ≡ f = cc in subst (λ x. higher x ≤ m) is (more g (i.near g e));
+      same = λ f h. i.same g e;
+    }
+
+-- ---- what a body asks for
+
+abbrev name_place : NameFault → ℕ
+name_place f = (name_refusal f).place
+
+name_start : (n : ℕ) (f : NameFault) → name_place f ≤ n
+name_start n BadKind = omega arith
+name_start n LabelLength = omega arith
+name_start n LabelByte = omega arith
+name_start n LabelTaken = omega arith
+name_start n TableFull = omega arith
+
+naming_near : (n : ℕ) (names : List Entity) (kind : ℕ) (label : List ℕ) → IsNear name_place n names (naming names kind label)
+unfolding naming
+naming_near n names kind label = go (kind_or_fault kind) (label_or_fault label)
   where
-    go : (s : Bool) → Near book_refusal size (cond {A = Taking BookFault} s (refused b (LeftOver 2)) (refused b (Item (Item'.WrongName 0)))).answer
-    go true = h
-    go false = omega arith
+    go : (k : Result Kind NameFault) (l : Result (List ℕ) NameFault) → IsNear name_place n names (naming_turn names k l)
+    go (Err f) l = refuses_near name_place n names f (name_start n f)
+    go (Ok k) (Err f) = refuses_near name_place n names f (name_start n f)
+    go (Ok k) (Ok l) =
+        test_near name_place n names LabelTaken _ _ (λ e. name_start n LabelTaken)
+        (test_near name_place n names TableFull _ _ (λ e. name_start n TableFull) (accepts_near name_place n names (names ++ new_name k l ∷ []) _))
 
-seed_near : (b : Contents) (body : List ℕ) → Near book_refusal (length body) (seed_record b body).answer
-seed_near b [] = omega arith
-seed_near b (low ∷ []) = omega arith
-seed_near b (low ∷ high ∷ rest) = item_near b (low + 256 * high) rest _ (omega arith)
+name_near : (n : ℕ) (b : Contents) (body : List ℕ) → IsNear name_place n b (name_turn b body)
+name_near n b [] = refuses_near name_place n b BadKind (name_start n BadKind)
+name_near n b (kind ∷ label) =
+    let i = naming_near n b.names kind label in
+    lifted_near (λ f. f) name_place name_place n n (λ f h. h) b (naming_call b kind label) (record {
+      near = i.near;
+      same = λ f e. ap (λ names. record { names = names; axioms = b.axioms }) (i.same f e);
+    })
 
-added_near : (b : Contents) (r : Rule) (count bytes len end : ℕ) → Near book_refusal len (adding b r (obstacle_of count bytes len end)).answer
-added_near b r count bytes len end = go (ltb end len) (leb 1024 count) (ltb 32768 (bytes + len)) refl
+abbrev axiom_place : AxiomFault → ℕ
+axiom_place f = (axiom_refusal f).place
+
+axiom_near : (b : Contents) (kind : AxiomKind) (body : List ℕ) → IsNear axiom_place (length body) b (axiom_call b kind body)
+unfolding axiom_call
+axiom_near b kind body = go (read_axiom body b.names kind) refl
   where
-    go : (s t u : Bool) → ltb end len ≡ s → Near book_refusal len (adding b r (cond s (Some (LeftOver end)) (cond t (Some AxiomsFull) (cond u (Some BytesFull) None)))).answer
-    go true t u h = omega (arith, ltb-true end len h)
-    go false true u h = omega arith
-    go false false true h = omega arith
-    go false false false h = tt
+    go : (o : Outcome Rule) → read_axiom body b.names kind ≡ o → IsNear axiom_place (length body) b (items_call b (length body) o)
+    go (bad fault) h = refuses_near axiom_place (length body) b (Axiom'.Item fault) (fault_within body b.names kind fault h)
+    go (got r end) h =
+        test_near axiom_place (length body) b (Axiom'.LeftOver end) (ltb end (length body)) _ (λ e. let l = ltb-true end (length body) e in omega arith)
+        (test_near axiom_place (length body) b Axiom'.AxiomsFull _ _ (λ e. omega arith)
+        (test_near axiom_place (length body) b Axiom'.BytesFull _ _ (λ e. omega arith) (accepts_near axiom_place (length body) b (with_axiom b r) _)))
 
-admitted_near : (b : Contents) (kind : AxiomKind) (body : List ℕ) → Near book_refusal (length body) (admission b kind body).answer
-unfolding admission
-admitted_near b kind body = go (read_axiom body b.names kind) refl
+abbrev seed_place : SeedFault → ℕ
+seed_place f = (seed_refusal f).place
+
+seeding_near : (n : ℕ) (b : Contents) (m : ℕ) → IsNear (λ (f : NoSuchName). 0) n b (seeding_call b m true)
+seeding_near n b m = go (ltb m (length b.names))
   where
-    go : (o : Outcome Rule) → read_axiom body b.names kind ≡ o → Near book_refusal (length body) (admitting b (length body) o).answer
-    go (got r end) h = added_near b r (length b.axioms) (bodies_length b.axioms) (length body) end
-    go (bad e) h = fault_within body b.names kind e h
+    go : (t : Bool) → IsNear (λ (f : NoSuchName). 0) n b (cond t (accepted_turn {A = Unit {0}} (record { names = reseed b.names m true; axioms = b.axioms }) tt) (refused_turn b (record {})))
+    go true = accepts_near _ n b (record { names = reseed b.names m true; axioms = b.axioms }) tt
+    go false = refuses_near _ n b (record {}) (omega arith)
 
-filed_near : (b : Contents) (o : Option AxiomKind) (body : List ℕ) → Near file_refusal (length body) (filing_of b o body).answer
-filed_near b None body = omega arith
-filed_near b (Some kind) body =
-    test_near file_refusal _ b BodyTooLong (ltb 512 (length body)) _ refl (raised file_refusal Book _ (admission b kind body).answer (admitted_near b kind body))
-
-turn_near : (b : Contents) (e : Entry) → Near file_refusal (length e.body) (record_turn b e).answer
-turn_near b e = go (eqb e.kind 1) (eqb e.kind 32)
+seed_near : (b : Contents) (body : List ℕ) → IsNear seed_place (length body) b (seed_turn b body)
+seed_near b [] = refuses_near seed_place 0 b (Item (Item'.CutShort 0)) (omega arith)
+seed_near b (x ∷ []) = refuses_near seed_place (length (x ∷ [])) b (Item (Item'.CutShort 0)) (omega arith)
+seed_near b (low ∷ high ∷ rest) =
+    subst (λ o. IsNear seed_place len b (seed_call b len o)) (sym (read_any_name-two low high rest b.names)) (go (ltb (number_of low high) (length b.names)))
   where
-    go : (s t : Bool) → Near file_refusal (length e.body) (cond s (bounded b e.body (name_record b e.body)) (cond t (bounded b e.body (seed_record b e.body)) (taken_as (λ f. f) (filing_call b e.kind e.body)))).answer
-    go true t = bounded_near b e.body (name_record b e.body) (name_near b e.body)
-    go false true = bounded_near b e.body (seed_record b e.body) (seed_near b e.body)
-    go false false =
-        done_near file_refusal _ (raise (λ f. f) (filing_call b e.kind e.body).answer)
-        (raised file_refusal (λ f. f) _ (filing_call b e.kind e.body).answer (filed_near b (axiom_kind_of e.kind) e.body))
+    len : ℕ
+    len = length (low ∷ high ∷ rest)
 
-place_bound : (at n : ℕ) (f : FileFault) → (file_refusal f).place ≤ n → place_in at f ≤ at + 4 + n
-place_bound at n NotEmpty h = omega arith
-place_bound at n CutShort h = omega arith
-place_bound at n UnknownKind h = omega arith
-place_bound at n BodyTooLong h = omega arith
-place_bound at n (Book e) h = omega arith
+    go : (t : Bool) → IsNear seed_place len b (seed_call b len (cond t (got (record { 0 = number_of low high }) 2) (bad (Item'.WrongName 0))))
+    go false = refuses_near seed_place len b (Item (Item'.WrongName 0)) (omega arith)
+    go true =
+        test_near seed_place len b (LeftOver 2) (ltb 2 len) _ (λ e. omega arith)
+        (lifted_near missing_name (λ f. 0) seed_place len len (λ f h. omega arith) b (seeding_call b (number_of low high) true) (seeding_near len b (number_of low high)))
 
--- the fault of a record that begins at a place
-pub turn_place : (b : Contents) (e : Entry) (at : ℕ) (f : FileFault) → Err f ≡ (record_turn b e).answer → place_in at f ≤ at + 4 + length e.body
-turn_place b e at f h = place_bound at (length e.body) f (IfErr-at_err (λ d. (file_refusal d).place ≤ length e.body) (sym h) (turn_near b e))
+-- ---- a record
+
+module _ (at : ℕ) (b : Contents) where
+  abbrev Near : ℕ → Taking RecordFault → Type 0
+  Near n t = IsNear (place_in at) (at + head_length + n) b t
+
+  body_near : (kind : RecordKind) (body : List ℕ) → Near (length body) (body_turn b kind body)
+  body_near Kind'.Name body = lifted_near Record'.Name name_place (place_in at) (length body) _ (λ f h. omega arith) b (name_turn b body) (name_near (length body) b body)
+  body_near (Kind'.Axiom kind) body = lifted_near Record'.Axiom axiom_place (place_in at) (length body) _ (λ f h. omega arith) b (axiom_call b kind body) (axiom_near b kind body)
+  body_near Kind'.Seed body = lifted_near Record'.Seed seed_place (place_in at) (length body) _ (λ f h. omega arith) b (seed_turn b body) (seed_near b body)
+
+  pub record_near : (e : Entry) → Near (length e.body) (record_turn b e)
+  record_near e = known (record_kind_of e.kind)
+    where
+      short : (kind : RecordKind) (t : Bool) → Near (length e.body) (short_turn b kind (cond t (Some e.body) None))
+      short kind false = refuses_near (place_in at) _ b Record'.BodyTooLong (omega arith)
+      short kind true = body_near kind e.body
+
+      known : (o : Option RecordKind) → Near (length e.body) (known_turn b o e.body)
+      known None = refuses_near (place_in at) _ b Record'.UnknownKind (omega arith)
+      known (Some kind) = short kind (leb (length e.body) longest_body)

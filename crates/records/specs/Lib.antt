@@ -1,7 +1,10 @@
 pub mod Kinds
-pub mod Places
-pub mod Stops
 pub mod Files
+pub mod Faults
+pub mod Stops
 pub mod Reading
 pub mod Loading
-pub mod Outcomes
+pub mod Steps
+pub mod Taking
+pub mod Fitting
+pub mod Law

@@ -1,23 +1,22 @@
 -- What a reader of records yields.
-use Rattle.std.specs.Prelude.{◌≡◌, ℕ, ◌+◌, length, Ok, Err, Result}
-use Rattle.book.specs.declared.fault.FileFault.{FileFault}
+use Rattle.std.specs.Prelude.{◌≡◌, ◌+◌, drop, Some, None, Ok, Err, Result}
+use Rattle.records.specs.declared.fault.RecordFault.{RecordFault}
+use Rattle.records.specs.declared.fault.RecordFault.TheVariants.{CutShort}
 use Rattle.records.specs.declared.reader.Record.{Record}
 use Rattle.records.specs.declared.reader.RecordReader.{RecordReader}
-use Rattle.records.specs.Files.{Entry, record_at}
+use Rattle.records.specs.Files.{Entry, record_length, first_record}
 
 abbrev pub entry_of : Record → Entry
 entry_of r = record { kind = r.kind; body = r.body.now }
 
-abbrev pub yielded : Result Record FileFault → Result Entry FileFault
-yielded (Ok r) = Ok (entry_of r)
-yielded (Err f) = Err f
+-- the record that was read is the one that begins the rest of the file, and the reader stands behind it; or there is none,
+-- and it stands where it stood
+abbrev pub Reads : RecordReader → Result Record RecordFault → RecordReader → Type 0
+Reads before (Ok r) later =
+    (first_record (drop before.at before.file.now) ≡ Some (entry_of r)) × (later.at ≡ before.at + record_length (entry_of r))
+Reads before (Err fault) later =
+    (first_record (drop before.at before.file.now) ≡ None) × (fault ≡ CutShort) × (later.at ≡ before.at)
 
--- the place after a record, or where it would begin
-abbrev pub after : Result Record FileFault → ℕ → ℕ
-after (Ok r) at = at + 4 + length r.body.now
-after (Err f) at = at
-
-pub record Yields (before : RecordReader) (r : Result Record FileFault) (later : RecordReader) : Type 0 where
+pub record Yields (before : RecordReader) (r : Result Record RecordFault) (later : RecordReader) : Type 0 where
   pub file : later.file.now ≡ before.file.now
-  pub answer : yielded r ≡ record_at before.file.now before.at
-  pub place : later.at ≡ after r before.at
+  pub reads : Reads before r later

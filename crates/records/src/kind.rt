@@ -3,18 +3,18 @@ ghost use Rattle.std.specs.Prelude.{◌≡◌};
 
 use terms::{AxiomKind, UnknownCode};
 
-// What a record asks for.
+/// What a record asks for.
 #[derive(Clone, Copy, Debug, PartialEq, Eq, Hash)]
 pub enum RecordKind {
-    // that a name be made
+    /// That a name be made.
     Name,
-    // that an axiom of a kind be filed
+    /// That an axiom of a kind be filed.
     Axiom(AxiomKind),
-    // that a name be seeded
+    /// That a name be seeded.
     Seed,
 }
 
-// The record kind of a number: 1, 16 to 22, or 32.
+/// The record kind of a number, as `specs/Kinds` says: 1, 16 to 22, or 32.
 impl TryFrom<u16> for RecordKind {
     ghost use Rattle.records.specs.Kinds.{record_kind_of};
 
@@ -31,7 +31,7 @@ impl TryFrom<u16> for RecordKind {
     }
 }
 
-// The number of a record kind.
+/// The number of a record kind, as `specs/Kinds` says.
 impl From<RecordKind> for u16 {
     ghost use Rattle.records.specs.Kinds.{record_number};
 

@@ -1,15 +1,20 @@
 ghost use Rattle.std.specs.Prelude.{◌≡◌, length};
-ghost use Rattle.book.specs.Calls.{contents};
+ghost use Rattle.refusals.specs.Turns.{Gives};
+ghost use Rattle.book.specs.Calls.{contents, with_fault};
+ghost use Rattle.records.specs.Law.{IsLoading};
 ghost use Rattle.records.specs.Loading.{loads, loading};
-ghost use Rattle.records.specs.Outcomes.{Stepped, Ends};
+ghost use Rattle.records.specs.Steps.{Stepped};
+ghost use Rattle.records.specs.Stops.{answer_of, stop_at};
 
-use crate::fault::LoadFault;
+use crate::fault::RecordFault;
+use crate::load_fault::LoadFault;
 use crate::reader::RecordReader;
+use crate::stopped::Stopped;
 use crate::taking::take;
-use book::{Draft, FileFault};
+use book::Draft;
 
 // Takes the next record of a file.
-fn step(draft: &mut Draft, reader: &mut RecordReader<'_>) -> Result<(), FileFault>
+fn step(draft: &mut Draft, reader: &mut RecordReader<'_>) -> Result<(), RecordFault>
     ensures { Stepped draft.old reader.old result draft.new reader.new }
 {
     let entry = reader.record()?;
@@ -17,17 +22,16 @@ fn step(draft: &mut Draft, reader: &mut RecordReader<'_>) -> Result<(), FileFaul
 }
 
 // Takes the records of a file in their order.
-fn load_records(draft: &mut Draft, file: &[u8]) -> Result<usize, LoadFault>
-    ensures { Ends draft.new result (loads (length file.now) file.now (contents draft.old) 0 0) }
+fn load_records(draft: &mut Draft, file: &[u8]) -> Result<usize, Stopped>
+    ensures { Gives (contents draft.new) (with_fault stop_at result)
+        (loads (length file.now) file.now (contents draft.old) 0 0) }
 {
     let mut reader = RecordReader { file, at: 0 };
     let mut taken = 0;
-    // the records are no iterator: an item would be an offset and a result, and the iterator would have to end after a fault
     while reader.at < file.len() {
         let offset = reader.at;
-        // a closure in a `map_err` knows nothing of its argument, and the fault's field `near` needs what the step promises
         if let Err(fault) = step(draft, &mut reader) {
-            return Err(LoadFault {
+            return Err(Stopped {
                 offset,
                 fault,
                 taken,
@@ -38,18 +42,17 @@ fn load_records(draft: &mut Draft, file: &[u8]) -> Result<usize, LoadFault>
     Ok(taken)
 }
 
-// Loads a file into a book that has no name and no axiom, and answers how many records were taken. The first faulty
-// record ends it, and those before it stay.
+/// Loads a file into a book that has no name and no axiom, and answers how many records were taken. Refused, with 1,
+/// where the book has a name or an axiom, and otherwise, with 2 to 18, at the first record that is not taken: the
+/// records before it stay. `specs/Law` says what that is, `specs/Fitting` when each refusal fits.
 #[tactic(auto, unfolding(crate::specs::Loading::loading))]
 pub fn load(draft: &mut Draft, file: &[u8]) -> Result<usize, LoadFault>
-    ensures { Ends draft.new result (loading (contents draft.old) file.now) }
+    ensures turn { Gives (contents draft.new) (answer_of result)
+        (loading (contents draft.old) file.now) }
+    ensures law { IsLoading (contents draft.old) file.now (answer_of result) (contents draft.new) }
 {
     if !draft.book().is_blank() {
-        return Err(LoadFault {
-            offset: 0,
-            fault: FileFault::NotEmpty,
-            taken: 0,
-        });
+        return Err(LoadFault::NotEmpty);
     }
-    load_records(draft, file)
+    Ok(load_records(draft, file)?)
 }

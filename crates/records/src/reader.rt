@@ -1,9 +1,11 @@
 ghost use Rattle.std.specs.Prelude.{◌≡◌, ◌≤◌, length};
 
-use book::FileFault;
+use crate::fault::RecordFault;
 
-// A record of a file: the number of its kind, and its body as a part of the file. The number is as it was read: whether it
-// is a kind is looked at where the record is taken, after its body was found whole.
+// How many bytes the head of a record has.
+pub(crate) const HEAD_LENGTH: usize = 4;
+
+// A record of a file: the number of its kind, whether it is one or not, and its body as a part of the file.
 #[derive(Clone, Copy)]
 pub(crate) struct Record<'a> {
     pub(crate) kind: u16,
@@ -22,16 +24,16 @@ impl<'a> RecordReader<'a> {
     ghost use Rattle.records.specs.Reading.{Yields};
 
     // The next record. Where its head or its body is cut short, the reader stays before it.
-    pub(crate) fn record(&mut self) -> Result<Record<'a>, FileFault>
+    pub(crate) fn record(&mut self) -> Result<Record<'a>, RecordFault>
         ensures { Yields self.old result self.new }
     {
         let rest = &self.file[self.at..];
-        let [len_low, len_high, kind_low, kind_high, rest @ ..] = rest else {
-            return Err(FileFault::CutShort);
+        let [len_low, len_high, kind_low, kind_high, behind @ ..] = rest else {
+            return Err(RecordFault::CutShort);
         };
         let len = usize::from(u16::from_le_bytes([*len_low, *len_high]));
-        let body = rest.get(..len).ok_or(FileFault::CutShort)?;
-        self.at += 4 + len;
+        let body = behind.get(..len).ok_or(RecordFault::CutShort)?;
+        self.at += HEAD_LENGTH + len;
         Ok(Record {
             kind: u16::from_le_bytes([*kind_low, *kind_high]),
             body,

@@ -12,4 +12,6 @@ loop-reader-preserved c =
     (c.in_default.ensures.file ∙ c.loop-reader.invariant.0, goes_on c.loop-reader.invariant.0 c.loop-reader-test.true c.loop-reader.invariant.1 _ c.in_default.ensures)
 
 pub returns : goal.returns
-returns c = goes_done c.loop-reader-test.false c.loop-reader.invariant.1
+returns c =
+    let whole = goes_done c.loop-reader-test.false c.loop-reader.invariant.1 in
+    record { state = ap (λ t. t.state) whole; answer = ap (λ t. t.answer) whole }

@@ -5,5 +5,5 @@ use Rattle.book.proofs.book.Book.name.Goals as goal
 
 pub invariant_of-self : goal.invariant_of-self
 invariant_of-self c =
-    let w = whole_naming c.args.kind c.args.label.now c.name.ensures.state (whole_of c.args.self.now) in
+    let w = whole_naming c.args.kind c.args.label.now c.name.ensures.turn.state (whole_of c.args.self.now) in
     search rules
