@@ -6,7 +6,7 @@ use Rattle.std.specs.List.{list_all}
 use Rattle.terms.specs.Forms.{Rule}
 use Rattle.book.specs.Contents.{Contents, Filing}
 use Rattle.locality.specs.Worlds.{Names}
-use Rattle.extraction.specs.Rounds.{Finish, busy, more, rounds_from, stage_finish}
+use Rattle.extraction.specs.Rounds.{Finish, marks_more, after_round, rounds_from, stage_finish}
 use Rattle.extraction.specs.Sets.{Marks, axiom_count, no_filing, is_in_force}
 use Rattle.cases.specs.Example.{among}
 
@@ -63,16 +63,16 @@ final xs (ys ∷ rounds) = final ys rounds
 module _ (b : Contents) (local : Rule → Names → Bool) (handed : Marks) where
   -- after xs the rounds come to these sets, one after the other, and then none marks an axiom
   abbrev pub follows : List ℕ → List (List ℕ) → Bool
-  follows xs [] = not (busy b local handed (among xs))
+  follows xs [] = not (marks_more b local handed (among xs))
   follows xs (ys ∷ rounds) =
-      busy b local handed (among xs) &&
-      (within (axiom_count b) ys && (agree (axiom_count b) (more b local handed (among xs)) (among ys) && follows ys rounds))
+      marks_more b local handed (among xs) &&
+      (within (axiom_count b) ys && (agree (axiom_count b) (after_round b local handed (among xs)) (among ys) && follows ys rounds))
 
   module _ (past : (k : ℕ) → axiom_count b ≤ k → handed k ≡ false) where
     -- one round
-    round : (xs ys : List ℕ) → within (axiom_count b) xs ≡ true → within (axiom_count b) ys ≡ true → agree (axiom_count b) (more b local handed (among xs)) (among ys) ≡ true → more b local handed (among xs) ≡ among ys
+    round : (xs ys : List ℕ) → within (axiom_count b) xs ≡ true → within (axiom_count b) ys ≡ true → agree (axiom_count b) (after_round b local handed (among xs)) (among ys) ≡ true → after_round b local handed (among xs) ≡ among ys
     round xs ys hx hy e = fun_ext (λ k. ⊎_elim
-        (λ h. agree_at (axiom_count b) (more b local handed (among xs)) (among ys) e k h)
+        (λ h. agree_at (axiom_count b) (after_round b local handed (among xs)) (among ys) e k h)
         (λ h. or_from _ _ (among_past _ xs hx k h) (and_left _ _ (past k h)) ∙ sym (among_past _ ys hy k h))
         (cases_lt k (axiom_count b)))
 
@@ -81,9 +81,9 @@ module _ (b : Contents) (local : Rule → Names → Bool) (handed : Marks) where
     rounds_are zero xs rounds h w e = absurd (omega arith)
     rounds_are (suc most) xs [] h w e = rw (not-true _ e, rounds_from) refl
     rounds_are (suc most) xs (ys ∷ rounds) h w e =
-        let p = and_parts (busy b local handed (among xs)) _ e in
+        let p = and_parts (marks_more b local handed (among xs)) _ e in
         let q = and_parts (within (axiom_count b) ys) _ p.1 in
-        let r = and_parts (agree (axiom_count b) (more b local handed (among xs)) (among ys)) _ q.1 in
+        let r = and_parts (agree (axiom_count b) (after_round b local handed (among xs)) (among ys)) _ q.1 in
         let on = ap (rounds_from b local handed most) (round xs ys w q.0 r.0) ∙ rounds_are most ys rounds (omega arith) q.0 r.1 in
         rw (p.0, rounds_from) (ap (λ (f : Finish). record { marked = f.marked; rounds = suc f.rounds }) on)
 

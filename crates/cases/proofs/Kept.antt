@@ -1,37 +1,37 @@
 -- The worked cases, one by one and together.
 use Rattle.std.proofs.Common.{◌≡◌, ℕ, suc, ◌≤◌, true, false, not, ◌&&◌, ◌||◌, List, [], ◌∷◌, length, refl, ap, ◌∙◌, arith}
 use Rattle.book.specs.Contents.{Contents}
-use Rattle.locality.specs.declared.filling.Filling.{Filling}
-use Rattle.locality.specs.declared.filling.Filling.TheVariants.{Bottom, Top}
+use Rattle.locality.specs.declared.test.Test.{Test}
+use Rattle.locality.specs.declared.test.Test.TheVariants.{Bottom, Top}
 use Rattle.locality.specs.SingleTerms.{SingleTerms}
-use Rattle.extraction.specs.Piles.{test_of, pile_kept, pile_rounds}
+use Rattle.locality.specs.Tables.{local_by}
 use Rattle.extraction.specs.Rounds.{Finish, stage_finish, add_rounds}
-use Rattle.extraction.specs.Sets.{Marks, axiom_count, is_in_force, drawn_in, names_in}
+use Rattle.extraction.specs.Sets.{Marks, axiom_count, is_in_force, names_drawn_in, list_size}
 use Rattle.cases.specs.Example.{among, relay, distance, bay, has, example}
-use Rattle.cases.specs.WorkedCases.{Keeps, WorkedCases}
+use Rattle.cases.specs.WorkedCases.{stages, Keeps, WorkedCases}
 use Rattle.cases.proofs.Chains.{final, follows, stage_is, in_force_past, among_past}
 use Rattle.cases.proofs.Bodies.{files, refuses, files_deep, refuses_deep}
 
--- what stages come to together
-abbrev stages : List Filling → Contents → Finish
-stages tests b = record { marked = pile_kept tests b; rounds = pile_rounds tests b }
+-- what stages mark and count
+abbrev ends : List Test → Contents → Finish
+ends tests b = record { marked = (stages tests b).kept; rounds = (stages tests b).rounds }
 
 -- one stage more, where it is known what those below hand up
-over : (d : Filling) (below : List Filling) (b : Contents) (handed : Marks) (before : ℕ) → stages below b ≡ record { marked = handed; rounds = before } → ((k : ℕ) → axiom_count b ≤ k → handed k ≡ false) → (rounds : List (List ℕ)) → length rounds ≤ axiom_count b → follows b (test_of d) handed [] rounds ≡ true → stages (d ∷ below) b ≡ record { marked = among (final [] rounds); rounds = add_rounds before (suc (length rounds)) }
+over : (d : Test) (below : List Test) (b : Contents) (handed : Marks) (before : ℕ) → ends below b ≡ record { marked = handed; rounds = before } → ((k : ℕ) → axiom_count b ≤ k → handed k ≡ false) → (rounds : List (List ℕ)) → length rounds ≤ axiom_count b → follows b (local_by d) handed [] rounds ≡ true → ends (d ∷ below) b ≡ record { marked = among (final [] rounds); rounds = add_rounds before (suc (length rounds)) }
 over d below b handed before e past rounds h f =
-    ap (λ (s : Finish). record { marked = (stage_finish b (test_of d) s.marked).marked; rounds = add_rounds s.rounds (stage_finish b (test_of d) s.marked).rounds }) e ∙
-    ap (λ (s : Finish). record { marked = s.marked; rounds = add_rounds before s.rounds }) (stage_is b (test_of d) handed past rounds h f)
+    ap (λ (s : Finish). record { marked = (stage_finish b (local_by d) s.marked).marked; rounds = add_rounds s.rounds (stage_finish b (local_by d) s.marked).rounds }) e ∙
+    ap (λ (s : Finish). record { marked = s.marked; rounds = add_rounds before s.rounds }) (stage_is b (local_by d) handed past rounds h f)
 
 -- a stage alone
-alone : (d : Filling) (b : Contents) (rounds : List (List ℕ)) → length rounds ≤ axiom_count b → follows b (test_of d) (is_in_force b) [] rounds ≡ true → stages (d ∷ []) b ≡ record { marked = among (final [] rounds); rounds = add_rounds 0 (suc (length rounds)) }
+alone : (d : Test) (b : Contents) (rounds : List (List ℕ)) → length rounds ≤ axiom_count b → follows b (local_by d) (is_in_force b) [] rounds ≡ true → ends (d ∷ []) b ≡ record { marked = among (final [] rounds); rounds = add_rounds 0 (suc (length rounds)) }
 alone d b = over d [] b (is_in_force b) 0 refl (in_force_past b)
 
 -- what the stages come to, told as the cases tell it
-keeps : (tests : List Filling) (b : Contents) (kept : List ℕ) (rounds drawn : ℕ) → stages tests b ≡ record { marked = among kept; rounds = rounds } → names_in b (drawn_in b (among kept)) ≡ drawn → Keeps tests b kept rounds drawn
+keeps : (tests : List Test) (b : Contents) (kept : List ℕ) (rounds drawn : ℕ) → ends tests b ≡ record { marked = among kept; rounds = rounds } → list_size b (names_drawn_in b (among kept)) ≡ drawn → Keeps tests b kept rounds drawn
 keeps tests b kept rounds drawn e d = record {
   marks = λ k. ap (λ (s : Finish). s.marked k) e;
   takes = ap (λ (s : Finish). s.rounds) e;
-  draws = ap (λ (s : Finish). names_in b (drawn_in b s.marked)) e ∙ d;
+  draws = ap (λ (s : Finish). list_size b (names_drawn_in b s.marked)) e ∙ d;
 }
 
 -- what the tests say of single terms is read off their tables
@@ -44,7 +44,7 @@ single = record {
 }
 
 -- what bottom keeps where "has" is seeded, which top is then handed
-has_kept : stages (Bottom ∷ []) (example (3 ∷ 5 ∷ []) has) ≡ record { marked = among (2 ∷ 4 ∷ 6 ∷ []); rounds = 4 }
+has_kept : ends (Bottom ∷ []) (example (3 ∷ 5 ∷ []) has) ≡ record { marked = among (2 ∷ 4 ∷ 6 ∷ []); rounds = 4 }
 has_kept = alone Bottom (example (3 ∷ 5 ∷ []) has) ((4 ∷ []) ∷ (2 ∷ 4 ∷ []) ∷ (2 ∷ 4 ∷ 6 ∷ []) ∷ []) (omega arith) refl
 
 -- each case by the sets that are marked after its rounds
@@ -63,6 +63,7 @@ all_cases = record {
       keeps _ _ [] 5 0
       (over Top (Bottom ∷ []) (example (3 ∷ 5 ∷ []) has) (among (2 ∷ 4 ∷ 6 ∷ [])) 4 has_kept (among_past 7 (2 ∷ 4 ∷ 6 ∷ []) refl) [] (omega arith) refl) refl;
   single_terms = single;
+  individuals = (refl, refl, refl);
   filed = files;
   wrong_name = refuses;
   deep = files_deep;

@@ -1,4 +1,4 @@
-// Worked cases on one small book.
+//! Worked cases on one small book.
 #![tactic(auto)]
 
 mod worked;

@@ -4,19 +4,18 @@ use mir.Val.{bool_byte}
 use Rattle.std.proofs.lemmas.Bool.{both_ways}
 use Rattle.std.specs.List.{list_any, count_by}
 use Rattle.locality.specs.Meaning.{some_below, count_below}
-use Rattle.extraction.specs.Marking.{bit, by_number, overwritten}
+use Rattle.extraction.specs.Marking.{bit, flags_over}
 use lib.ListN.{length-map}
 use Rattle.std.proofs.lemmas.List.Recursion.{is_count_by}
 use Rattle.vocabulary.specs.declared.name.Name.{Name}
 use Rattle.vocabulary.specs.Entities.{Entity, entity}
 use Rattle.book.specs.Contents.{Contents}
 use Rattle.std.proofs.lemmas.List.{get_or-take, map-id}
-use Rattle.locality.specs.Tables.{listed_in}
+use Rattle.locality.specs.Flags.{set_of, by_number, listed_in}
 use Rattle.extraction.specs.declared.tables.Tables.{Tables}
 use Rattle.extraction.specs.Tallying.{ListsSeeded}
-use Rattle.extraction.specs.Below.{some_same, count_same}
-use Rattle.extraction.specs.Listing.{set_of}
-use Rattle.extraction.specs.Sets.{no_entity, name_count, names_in, outsiders, signature}
+use Rattle.extraction.specs.lemmas.Below.{some_same, count_same}
+use Rattle.extraction.specs.Sets.{no_entity, name_count, list_size, outsiders, signature}
 use Rattle.extraction.proofs.Filling.{flags_of_names}
 
 -- the first number apart from the others
@@ -66,19 +65,19 @@ count_without (suc n) s t h =
     one false false g = refl
 
 -- one byte more is written
-pub overwritten_more : (n : ℕ) (s : ℕ → Bool) (bytes : List ℕ) → set (overwritten n s bytes) n (bit (s n)) ≡ overwritten (n + 1) s bytes
-overwritten_more n s bytes = go n s bytes ∙ sym (rw add-one refl)
+pub flags_over-more : (n : ℕ) (s : ℕ → Bool) (bytes : List ℕ) → set (flags_over n s bytes) n (bit (s n)) ≡ flags_over (n + 1) s bytes
+flags_over-more n s bytes = go n s bytes ∙ sym (rw add-one refl)
   where
-    go : (n : ℕ) (s : ℕ → Bool) (bytes : List ℕ) → set (overwritten n s bytes) n (bit (s n)) ≡ overwritten (suc n) s bytes
+    go : (n : ℕ) (s : ℕ → Bool) (bytes : List ℕ) → set (flags_over n s bytes) n (bit (s n)) ≡ flags_over (suc n) s bytes
     go zero s [] = refl
     go (suc n) s [] = refl
     go zero s (x ∷ bytes) = refl
     go (suc n) s (x ∷ bytes) = ap (λ l. bit (s 0) ∷ l) (go n (λ k. s (suc k)) bytes)
 
-overwritten_alike : (n : ℕ) (s t : ℕ → Bool) (bytes : List ℕ) → ((k : ℕ) → k < n → s k ≡ t k) → overwritten n s bytes ≡ overwritten n t bytes
-overwritten_alike zero s t bytes h = refl
-overwritten_alike (suc n) s t [] h = refl
-overwritten_alike (suc n) s t (x ∷ bytes) h = ap₂ (λ f l. bit f ∷ l) (h 0 (omega arith)) (overwritten_alike n _ _ bytes (λ k l. h (suc k) (omega arith)))
+flags_over-alike : (n : ℕ) (s t : ℕ → Bool) (bytes : List ℕ) → ((k : ℕ) → k < n → s k ≡ t k) → flags_over n s bytes ≡ flags_over n t bytes
+flags_over-alike zero s t bytes h = refl
+flags_over-alike (suc n) s t [] h = refl
+flags_over-alike (suc n) s t (x ∷ bytes) h = ap₂ (λ f l. bit f ∷ l) (h 0 (omega arith)) (flags_over-alike n _ _ bytes (λ k l. h (suc k) (omega arith)))
 
 -- the byte of a flag
 pub flag_byte : (t : Bool) → bool_byte t ≡ bit t
@@ -96,7 +95,7 @@ module _ (b : Contents) (ns : List Name) (e : map entity ns ≡ b.names) where
   pub seeded_some : list_any (λ n. n.seeded) ns ≡ some_below (name_count b) (by_number (signature b))
   seeded_some = sym (some_listed (λ n. n.seeded) ns) ∙ some_same _ _ _ _ all_names (λ k l. seeded_at k)
 
-  pub seeded_count : count_by (λ n. n.seeded) ns ≡ names_in b (signature b)
+  pub seeded_count : count_by (λ n. n.seeded) ns ≡ list_size b (signature b)
   seeded_count = count_listed (λ n. n.seeded) ns ∙ count_same _ _ _ _ all_names (λ k l. seeded_at k)
 
 -- the first flags of a table, counted and written as far as they go
@@ -110,11 +109,11 @@ module _ (flags : List Bool) (n : ℕ) (h : n ≤ length flags) where
   pub count_taken : count_below (length (take n flags)) (set_of (take n flags)) ≡ count_below n (set_of flags)
   count_taken = count_same _ _ _ _ all_taken taken_at
 
-  pub overwritten_taken : (bytes : List ℕ) → overwritten (length (take n flags)) (set_of (take n flags)) bytes ≡ overwritten n (set_of flags) bytes
-  overwritten_taken bytes = ap (λ m. overwritten m (set_of (take n flags)) bytes) all_taken ∙ overwritten_alike n _ _ bytes taken_at
+  pub flags_over-taken : (bytes : List ℕ) → flags_over (length (take n flags)) (set_of (take n flags)) bytes ≡ flags_over n (set_of flags) bytes
+  flags_over-taken bytes = ap (λ m. flags_over m (set_of (take n flags)) bytes) all_taken ∙ flags_over-alike n _ _ bytes taken_at
 
 -- the names that are listed and not seeded
-pub drawn_without : (b : Contents) (t : Tables) (closed seeded : ℕ) → ListsSeeded b t → closed ≡ count_below (name_count b) (set_of t.closed) → seeded ≡ names_in b (signature b) → (seeded ≤ closed) × (closed - seeded ≡ names_in b (outsiders b (listed_in t.closed)))
+pub drawn_without : (b : Contents) (t : Tables) (closed seeded : ℕ) → ListsSeeded b t → closed ≡ count_below (name_count b) (set_of t.closed) → seeded ≡ list_size b (signature b) → (seeded ≤ closed) × (closed - seeded ≡ list_size b (outsiders b (listed_in t.closed)))
 drawn_without b t closed seeded lists c s =
     let all = count_without (name_count b) (set_of t.closed) (by_number (signature b)) lists in
     (omega arith, omega arith)

@@ -11,7 +11,8 @@ use Rattle.book.specs.declared.book.Filed.{Filed}
 use Rattle.book.specs.Calls.{contents}
 use Rattle.book.specs.Contents.{filing}
 use Rattle.terms.specs.declared.term.Term.{Term}
-use Rattle.extraction.specs.Listing.{set_of, FilledTo}
+use Rattle.locality.specs.Flags.{set_of}
+use Rattle.extraction.specs.Listing.{FilledTo}
 use Rattle.extraction.specs.Sets.{Marks, no_filing, no_entity, axiom_count}
 
 -- a table of false flags holds nothing

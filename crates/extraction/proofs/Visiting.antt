@@ -24,13 +24,13 @@ use Rattle.book.specs.Calls.{contents}
 use Rattle.book.specs.Contents.{Contents}
 use Rattle.locality.specs.Meaning.{some_below}
 use Rattle.locality.specs.Mentions.{in_rule}
-use Rattle.locality.specs.Tables.{listed_in}
+use Rattle.locality.specs.Flags.{set_of, listed_in}
 use Rattle.locality.specs.Worlds.{Names}
-use Rattle.extraction.specs.Listing.{set_of, Adds}
+use Rattle.extraction.specs.Listing.{Adds}
 use Rattle.extraction.specs.Sets.{Marks, axiom_count, rule_at, signature, closed_signature}
-use Rattle.extraction.specs.Visits.{below, ListedTo, MarkedTo}
+use Rattle.extraction.specs.Visits.{chosen_below, ListedTo, MarkedTo}
 use Rattle.extraction.proofs.Filling.{filed_at, axioms_number}
-use Rattle.extraction.specs.Names.{rule_names}
+use Rattle.extraction.specs.lemmas.Names.{rule_names}
 
 -- every name in an axiom of a book has a flag in a table
 pub rule_room : (b : Book) (k : ℕ) (n : NameId) → in_rule (rule_at (contents b) k) n ≡ true → n.0 < 1024
@@ -105,7 +105,7 @@ set_more flags i h k = ⊎_elim
     (cases_eq k i)
 
 -- the numbers up to i are those below it, and i
-below_more : (i : ℕ) (chosen : Marks) (k : ℕ) → below (i + 1) chosen k ≡ (below i chosen k || (eqb k i && chosen k))
+below_more : (i : ℕ) (chosen : Marks) (k : ℕ) → chosen_below (i + 1) chosen k ≡ (chosen_below i chosen k || (eqb k i && chosen k))
 below_more i chosen k = ⊎_elim
     (λ z. ap (λ t. t && chosen k) (lt-ltb k (i + 1) (omega arith)) ∙ sym (ap₂ (λ t u. (t && chosen k) || (u && chosen k)) (le-ltb k i (omega arith)) (eq-eqb k i z)))
     (⊎_elim
@@ -122,7 +122,7 @@ module _ (b : Contents) (chosen marked : Marks) (before : Names) where
   pub mark_skip : (i : ℕ) (kept xs : List Bool) (any : Bool) → chosen i ≡ false → MarkedTo b i chosen marked before kept xs any → MarkedTo b (i + 1) chosen marked before kept xs any
   mark_skip i kept xs any out so = record {
     room = so.room;
-    axioms = λ k. so.axioms k ∙ ap (λ t. marked k || t) (sym (below_more i chosen k ∙ ap (λ t. below i chosen k || t) (skipped k) ∙ or-false _));
+    axioms = λ k. so.axioms k ∙ ap (λ t. marked k || t) (sym (below_more i chosen k ∙ ap (λ t. chosen_below i chosen k || t) (skipped k) ∙ or-false _));
     names = list_skip b chosen before i xs out so.names;
     some = so.some ∙ rw (add-one, out) refl;
   }
@@ -135,7 +135,7 @@ module _ (b : Contents) (chosen marked : Marks) (before : Names) where
   mark_next i kept xs ys any h small into adds so = record {
     room = length-set kept i true ∙ so.room;
     axioms = λ k.
-        set_more kept i (rw so.room h) k ∙ ap (λ t. t || eqb k i) (so.axioms k) ∙ or_assoc (marked k) _ _ ∙ ap (λ t. marked k || (below i chosen k || t)) (chosen_at k) ∙ ap (λ t. marked k || t) (sym (below_more i chosen k));
+        set_more kept i (rw so.room h) k ∙ ap (λ t. t || eqb k i) (so.axioms k) ∙ or_assoc (marked k) _ _ ∙ ap (λ t. marked k || (chosen_below i chosen k || t)) (chosen_at k) ∙ ap (λ t. marked k || t) (sym (below_more i chosen k));
     names = list_next b chosen before i xs ys small into adds so.names;
     some = rw (add-one, into) refl;
   }

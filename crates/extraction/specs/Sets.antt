@@ -1,10 +1,9 @@
 -- Sets of a book's axioms, the signature of the book, and the names that belong to a set of its axioms.
-use Rattle.std.specs.Prelude.{◌≡◌, ℕ, Bool, true, false, not, ◌&&◌, ◌||◌, [], length, slice_index_or}
+use Rattle.std.specs.Prelude.{ℕ, Bool, false, not, ◌&&◌, ◌||◌, [], length, slice_index_or}
 use Rattle.vocabulary.specs.declared.kind.Kind.TheVariants as Kind'
 use Rattle.vocabulary.specs.Entities.{Entity}
-use Rattle.std.specs.List.{list_all}
 use Rattle.terms.specs.Forms.{Rule, nothing, inclusion}
-use Rattle.book.specs.Contents.{Contents, Filing, sound}
+use Rattle.book.specs.Contents.{Contents, Filing}
 use Rattle.locality.specs.Meaning.{some_below, count_below}
 use Rattle.locality.specs.Mentions.{in_rule}
 use Rattle.locality.specs.Worlds.{Names}
@@ -20,11 +19,6 @@ no_filing = record { states = inclusion nothing nothing; in_force = false }
 
 abbrev pub no_entity : Entity
 no_entity = record { kind = Kind'.Concept; label = []; seeded = false }
-
--- in every book each number in an axiom belongs to a name of the kind wanted there, each count is at least 1, and no
--- body is too long
-abbrev pub Sound : Contents → Type 0
-Sound b = list_all (sound b.names) b.axioms ≡ true
 
 module _ (b : Contents) where
   -- how many axioms and how many names there are
@@ -59,12 +53,12 @@ module _ (b : Contents) where
   outsiders listed n = listed n && not (signature n)
 
   -- the names that a set of axioms draws in: those of its closed signature outside the signature
-  abbrev pub drawn_in : Marks → Names
-  drawn_in s = outsiders (closed_signature s)
+  abbrev pub names_drawn_in : Marks → Names
+  names_drawn_in s = outsiders (closed_signature s)
 
   -- how many axioms are in a set, and how many names
   abbrev pub size : Marks → ℕ
   size s = count_below axiom_count s
 
-  abbrev pub names_in : Names → ℕ
-  names_in listed = count_below name_count (λ n. listed (record { 0 = n }))
+  abbrev pub list_size : Names → ℕ
+  list_size listed = count_below name_count (λ n. listed (record { 0 = n }))

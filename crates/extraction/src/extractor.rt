@@ -1,35 +1,33 @@
-ghost use Rattle.std.specs.Prelude.{◌≡◌, ℕ};
 ghost use Rattle.book.specs.Calls.{contents};
 ghost use Rattle.book.specs.Contents.{Contents};
-ghost use Rattle.locality.specs.Worlds.{World};
+ghost use Rattle.book.specs.Proper.{Sound};
+ghost use Rattle.extraction.specs.Extractions.{Extraction};
 ghost use Rattle.extraction.specs.Extractors.{Meaning};
-ghost use Rattle.extraction.specs.Extracts.{Holding};
-ghost use Rattle.extraction.specs.Sets.{Marks, Sound};
+ghost use Rattle.extraction.specs.Extracts.{Extracts, HandsUp};
 
 use crate::tables::Tables;
 use book::AtRest;
 
-// An extractor chooses among the axioms in force of a book those that it keeps. What it means is settled by the book's
-// contents: the kept set, how it repairs worlds, and how many rounds it counts. A pile is an extractor with stages on top
-// of each other over it, or with none; what is said of a pile is said of its uppermost extractor.
-//
-// The four members are apart, and no one record, since a clause names those that it speaks of.
+/// An extractor: it chooses among the axioms in force of a book those that it keeps (docs/EXTRACTION.md). What it comes to
+/// is settled by the book's contents, as data, and means what specs/Extractors.antt says: a pile is an extractor with
+/// stages on top of each other over it, or with none.
 pub trait Extractor {
-    ghost kept: { Self → Contents → Marks };
+    ghost extraction: { Self → Contents → Extraction };
 
-    ghost repair: { Self → Contents → World → World };
-
-    ghost rounds: { Self → Contents → ℕ };
-
-    // what is promised of each stage in the extractor, beyond its meaning
-    ghost stages: { Self → Contents → Type 0 };
-
-    // Answers the kept set and the closed signature in the tables, and the rounds. It never refuses.
+    /// Answers the rounds, and leaves the kept set and its closed signature in the tables. It never refuses.
     fn extract(&self, rest: &AtRest, tables: &mut Tables) -> u32
-        ensures holds { Holding (contents rest.now) (kept self.now (contents rest.now)) tables.new }
-        ensures counts { result ≡ rounds self.now (contents rest.now) };
+        ensures { let b = contents rest.now in
+            let x = extraction self.now b in
+            Extracts b x.kept x.rounds tables.new result };
 
-    ghost means: { (e : Self) (b : Contents) → Sound b → Meaning b (kept e b) (repair e b) (rounds e b) };
+    /// Answers the rounds, and leaves the kept set in the tables: what a stage is handed up. The closed signature is left
+    /// open.
+    fn hand_up(&self, rest: &AtRest, tables: &mut Tables) -> u32
+        ensures { let x = extraction self.now (contents rest.now) in
+            HandsUp x.kept x.rounds tables.new result }
+    {
+        self.extract(rest, tables)
+    }
 
-    ghost promises: { (e : Self) (b : Contents) → Sound b → stages e b };
+    ghost means: { (e : Self) (b : Contents) → Sound b → Meaning b (extraction e b) };
 }

@@ -1,5 +1,4 @@
-// The names of an axiom, added to a list. The list is lent to each of these anew: a struct around it would have to promise
-// at every step that it still holds the same one.
+// The names of an axiom, added to a list.
 ghost use Rattle.terms.specs.Forms.{form, meaning, rule};
 ghost use Rattle.terms.specs.Tables.{nodes_of};
 ghost use Rattle.locality.specs.Mentions.{same, in_term, in_rule};
@@ -11,7 +10,6 @@ use vocabulary::NameId;
 fn list_name(listed: &mut [bool], id: NameId)
     ensures { Adds (same id) listed.old listed.new }
 {
-    // a flag lent by `get_mut` leaves it open what the slice ends as
     let at = usize::from(id.0);
     if at < listed.len() {
         listed[at] = true;

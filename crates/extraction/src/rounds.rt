@@ -2,16 +2,22 @@
 ghost use Rattle.std.specs.Prelude.{◌≡◌, ◌<◌, not, ◌&&◌};
 ghost use Rattle.terms.specs.Forms.{rule};
 ghost use Rattle.terms.specs.Tables.{nodes_of};
-ghost use Rattle.locality.specs.Tables.{listed_in};
+ghost use Rattle.locality.specs.Flags.{listed_in};
+ghost use Rattle.book.specs.Limits.{most_axioms};
 ghost use Rattle.book.specs.Calls.{contents};
-ghost use Rattle.extraction.specs.Extracts.{Holding, Inside, Consistent, RoundDone};
-ghost use Rattle.extraction.specs.Listing.{set_of};
-ghost use Rattle.extraction.specs.Rounds.{stage_finish};
+ghost use Rattle.extraction.specs.Extracts.{
+  handed_in,
+  kept_in,
+  Inside,
+  RoundDone,
+  RoundsDone,
+  StageDone,
+};
+ghost use Rattle.extraction.specs.Signatures.{with_signature, ListsOwn};
 
 use crate::mentions::list_axiom;
-use crate::start::seeded_names;
 use crate::tables::{Flags, NONE, Tables};
-use book::Book;
+use book::{AtRest, Book};
 use locality::LocalityTest;
 use terms::{Axiom, Terms};
 
@@ -25,18 +31,21 @@ fn is_fresh<T: LocalityTest>(
     tables: &Tables,
     number: usize,
 ) -> bool
-    requires { number < 1024 }
-    ensures { result ≡ (set_of tables.now.handed number && (not (set_of tables.now.kept number) && not (T.LocalityTest.local test.now (rule (nodes_of terms.now) «axiom») (listed_in list.now)))) }
+    requires { number < most_axioms }
+    ensures { let is_local = T.LocalityTest.local test.now (rule (nodes_of terms.now) «axiom»)
+        (listed_in list.now) in
+        result ≡ (handed_in tables.now number
+        && (not (kept_in tables.now number) && not is_local)) }
 {
     tables.handed[number] && !tables.kept[number] && !test.is_local(terms, axiom, list)
 }
 
 // One round: each unmarked axiom handed up is tested against the list at the round's beginning, and those that are not
 // local are marked, their names added to the list. Answers whether the round marked an axiom.
-pub(crate) fn round<T: LocalityTest>(test: &T, book: &Book, tables: &mut Tables) -> bool
-    requires inside { Inside (contents book.now) tables.old }
-    requires consistent { Consistent (contents book.now) tables.old }
-    ensures { RoundDone (contents book.now) (T.LocalityTest.local test.now) tables.old tables.new result }
+fn round<T: LocalityTest>(test: &T, book: &Book, tables: &mut Tables) -> bool
+    requires { Inside (contents book.now) (handed_in tables.old) }
+    ensures { RoundDone (contents book.now) (T.LocalityTest.local test.now)
+        tables.old tables.new result }
 {
     let list = tables.closed;
     let mut marks = false;
@@ -50,18 +59,36 @@ pub(crate) fn round<T: LocalityTest>(test: &T, book: &Book, tables: &mut Tables)
     marks
 }
 
-// The rounds of a stage on tables that hold what was handed up: the first that marks no axiom is the last, and counts.
-// Rounds are what is counted here, and there is no iterator that they come from.
-pub(crate) fn rounds<T: LocalityTest>(test: &T, book: &Book, tables: &mut Tables) -> u32
-    requires { Inside (contents book.now) tables.old }
-    ensures holds { Holding (contents book.now) (stage_finish (contents book.now) (T.LocalityTest.local test.now) (set_of tables.old.handed)).marked tables.new }
-    ensures counts { result ≡ (stage_finish (contents book.now) (T.LocalityTest.local test.now) (set_of tables.old.handed)).rounds }
+// The rounds of a stage for a signature, on tables that hold what was handed up: the first that marks no axiom is the last,
+// and counts.
+fn rounds<T: LocalityTest>(test: &T, book: &Book, signature: &Flags, tables: &mut Tables) -> u32
+    requires handed { Inside (contents book.now) (handed_in tables.old) }
+    requires listed { ListsOwn (contents book.now) (listed_in signature.now) }
+    ensures { let b = with_signature (contents book.now) (listed_in signature.now) in
+        RoundsDone b (T.LocalityTest.local test.now) tables.old tables.new result }
 {
     tables.kept = NONE;
-    tables.closed = seeded_names(book);
+    tables.closed = *signature;
     let mut marking = 0;
     while round(test, book, tables) {
         marking += 1;
     }
     marking + 1
+}
+
+// A stage on top: what the tables keep is handed up to it. Answers the rounds, those below included.
+pub(crate) fn add_stage<T: LocalityTest>(
+    test: &T,
+    rest: &AtRest,
+    signature: &Flags,
+    tables: &mut Tables,
+    below: u32,
+) -> u32
+    requires kept { Inside (contents rest.now) (kept_in tables.old) }
+    requires listed { ListsOwn (contents rest.now) (listed_in signature.now) }
+    ensures { let b = with_signature (contents rest.now) (listed_in signature.now) in
+        StageDone b (T.LocalityTest.local test.now) tables.old below tables.new result }
+{
+    tables.handed = tables.kept;
+    below.saturating_add(rounds(test, rest.book(), signature, tables))
 }

@@ -1,39 +1,35 @@
-ghost use Rattle.extraction.specs.Stages.{stage_kept, stage_mends, stage_rounds, StagePromise};
-ghost use Rattle.extraction.specs.Repaired.{stage_meaning};
-ghost use Rattle.extraction.specs.Limits.{stage_laws};
+ghost use Rattle.extraction.specs.Extractions.{staged};
+ghost use Rattle.extraction.specs.lemmas.Repaired.{staged_meaning};
 
 use crate::extractor::Extractor;
-use crate::rounds::rounds;
+use crate::rounds::add_stage;
+use crate::start::seeded_names;
 use crate::tables::Tables;
 use book::AtRest;
 use locality::LocalityTest;
 
-// A stage: a locality test over any extractor. The axioms that the extractor below keeps are handed up to it; it marks
-// some of them in rounds and keeps what it marked, so it is again an extractor.
+/// A stage: a locality test over any extractor. The axioms that the extractor below keeps are handed up to it; it marks
+/// some of them in rounds and keeps what it marked, so it is again an extractor.
 #[derive(Clone, Copy, Debug)]
 pub struct Stage<T, E> {
+    /// The test.
     pub test: T,
+    /// The extractor below.
     pub below: E,
 }
 
+/// It comes to a stage of its test over what the extractor below comes to.
 impl<T: LocalityTest, E: Extractor> Extractor for Stage<T, E> {
-    ghost kept = { λ s. stage_kept (T.LocalityTest.local s.test) (E.Extractor.kept s.below) };
+    ghost extraction = { λ s b. staged b
+        (T.LocalityTest.local s.test) (T.LocalityTest.default s.test)
+        (E.Extractor.extraction s.below b) };
 
-    ghost repair = { λ s. stage_mends (T.LocalityTest.local s.test) (E.Extractor.kept s.below) (T.LocalityTest.default s.test) (E.Extractor.repair s.below) };
-
-    ghost rounds = { λ s. stage_rounds (T.LocalityTest.local s.test) (E.Extractor.kept s.below) (E.Extractor.rounds s.below) };
-
-    // what it marks is the least closed set of the axioms handed up, and its rounds are bounded; and so for every stage
-    // below
-    ghost stages = { λ s. StagePromise (T.LocalityTest.local s.test) (E.Extractor.kept s.below) (E.Extractor.rounds s.below) (E.Extractor.stages s.below) };
-
-    ghost means = { λ s b h. stage_meaning b _ _ (T.LocalityTest.keeps s.test) h _ _ _ (E.Extractor.means s.below b h) };
-
-    ghost promises = { λ s b h. (stage_laws b _ _ (T.LocalityTest.keeps s.test) h _ (E.Extractor.means s.below b h).part _, E.Extractor.promises s.below b h) };
+    ghost means = { λ s b right. staged_meaning b right _ _ (T.LocalityTest.keeps s.test) _
+        (E.Extractor.means s.below b right) };
 
     fn extract(&self, rest: &AtRest, tables: &mut Tables) -> u32 {
-        let below = self.below.extract(rest, tables);
-        tables.handed = tables.kept;
-        below.saturating_add(rounds(&self.test, rest.book(), tables))
+        let below = self.below.hand_up(rest, tables);
+        let signature = seeded_names(rest.book());
+        add_stage(&self.test, rest, &signature, tables, below)
     }
 }

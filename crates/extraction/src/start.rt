@@ -1,16 +1,15 @@
 // Tables as they are filled from a book: its signature, and its axioms in force.
 ghost use Rattle.std.specs.Prelude.{◌≡◌, ◌≤◌, Bool, length, map};
+ghost use Rattle.book.specs.Limits.{most_axioms};
 ghost use Rattle.book.specs.Calls.{contents};
-ghost use Rattle.locality.specs.Tables.{listed_in};
-ghost use Rattle.extraction.specs.Listing.{set_of};
+ghost use Rattle.locality.specs.Flags.{set_of, listed_in};
 ghost use Rattle.extraction.specs.Sets.{is_in_force, signature};
 
 use crate::tables::{Flags, NONE};
 use book::{Book, Filed};
 use vocabulary::Name;
 
-// An item that is chosen or not: a name for the signature, an axiom to be in force. It is a trait and no closure, since
-// a clause over a closure would be for every test that it computes, and each caller would prove which one that is.
+// An item that is chosen or not: a name for the signature, an axiom to be in force.
 trait Chosen {
     ghost chosen: { Self → Bool };
 
@@ -34,10 +33,9 @@ impl Chosen for Filed {
     }
 }
 
-// A flag for each number that an item may have: whether there is one, and it is chosen. Flags are set by number: after
-// a `zip` over `iter_mut` nothing is known of them.
+// A flag for each number that an item may have: whether there is one, and it is chosen.
 fn choice<T: Chosen>(items: &[T]) -> Flags
-    requires { length items.now ≤ 1024 }
+    requires { length items.now ≤ most_axioms }
     ensures { set_of result ≡ set_of (map T.chosen items.now) }
 {
     let mut flags = NONE;
@@ -47,7 +45,7 @@ fn choice<T: Chosen>(items: &[T]) -> Flags
     flags
 }
 
-// The signature of a book, as a list of flags: one for each number that a name may have.
+/// The signature of a book, as a list of flags: one for each number that a name may have.
 pub fn seeded_names(book: &Book) -> Flags
     ensures { listed_in result ≡ signature (contents book.now) }
 {

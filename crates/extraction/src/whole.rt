@@ -1,10 +1,10 @@
-ghost use Rattle.locality.specs.Tables.{listed_in};
 ghost use Rattle.book.specs.Calls.{contents};
+ghost use Rattle.extraction.specs.Extractions.{whole};
 ghost use Rattle.extraction.specs.Extracts.{Holding};
-ghost use Rattle.extraction.specs.Listing.{set_of};
-ghost use Rattle.extraction.specs.Sets.{axiom_count, is_in_force, signature};
+ghost use Rattle.locality.specs.Flags.{set_of, listed_in};
+ghost use Rattle.extraction.specs.Sets.{axiom_count, is_in_force};
 ghost use Rattle.extraction.specs.Visits.{ListedTo};
-ghost use Rattle.extraction.specs.Repaired.{whole_meaning};
+ghost use Rattle.extraction.specs.lemmas.Repaired.{whole_meaning};
 
 use crate::extractor::Extractor;
 use crate::mentions::list_axiom;
@@ -12,14 +12,14 @@ use crate::start::{axioms_in_force, seeded_names};
 use crate::tables::{Flags, Tables};
 use book::{AtRest, Book};
 
-// The whole extractor: all axioms in force are kept, so worlds need no repair, and no round is counted.
+/// The whole extractor: all axioms in force are kept, so worlds need no repair, and no round is counted.
 #[derive(Clone, Copy, Debug)]
 pub struct Whole;
 
-// Adds the names of the axioms in a set to a list. A part goes through its axioms in the same way, and has a loop of its
-// own: an iterator for both would be longer than the two loops.
+// Adds the names of the axioms in a set to a list.
 fn list_names(listed: &mut Flags, book: &Book, kept: &Flags)
-    ensures { ListedTo (contents book.now) (axiom_count (contents book.now)) (set_of kept.now) (listed_in listed.old) listed.new }
+    ensures { let b = contents book.now in
+        ListedTo b (axiom_count b) (set_of kept.now) (listed_in listed.old) listed.new }
 {
     for (filed, is_kept) in book.axioms().iter().zip(kept) {
         if *is_kept {
@@ -28,24 +28,29 @@ fn list_names(listed: &mut Flags, book: &Book, kept: &Flags)
     }
 }
 
+// Keeps all axioms in force.
+fn keep_all(book: &Book, tables: &mut Tables)
+    ensures { let b = contents book.now in
+        Holding b (is_in_force b) tables.new }
+{
+    tables.kept = axioms_in_force(book);
+    tables.closed = seeded_names(book);
+    list_names(&mut tables.closed, book, &tables.kept);
+}
+
+/// It has no stage.
 impl Extractor for Whole {
-    ghost kept = { λ e b. is_in_force b };
+    ghost extraction = { λ e. whole };
 
-    ghost repair = { λ e b w. w };
-
-    ghost rounds = { λ e b. 0 };
-
-    // it has no stage
-    ghost stages = { λ e b. Unit {0} };
-
-    ghost means = { λ e b h. whole_meaning b };
-
-    ghost promises = { λ e b h. tt };
+    ghost means = { λ e b right. whole_meaning b };
 
     fn extract(&self, rest: &AtRest, tables: &mut Tables) -> u32 {
+        keep_all(rest.book(), tables);
+        0
+    }
+
+    fn hand_up(&self, rest: &AtRest, tables: &mut Tables) -> u32 {
         tables.kept = axioms_in_force(rest.book());
-        tables.closed = seeded_names(rest.book());
-        list_names(&mut tables.closed, rest.book(), &tables.kept);
         0
     }
 }

@@ -1,18 +1,19 @@
 use Rattle.std.proofs.Common.{◌≡◌, sym, ap, ◌∙◌, subst, rules}
 use Rattle.book.specs.Calls.{contents}
+use Rattle.locality.specs.Flags.{set_of}
 use Rattle.locality.specs.Mentions.{in_rule}
-use Rattle.extraction.specs.Listing.{set_of, Adds}
-use Rattle.extraction.specs.Rounds.{fresh}
-use Rattle.extraction.proofs.Rounding.{fresh_is, round_done}
+use Rattle.extraction.specs.Listing.{Adds}
+use Rattle.extraction.specs.Extracts.{new_marks}
+use Rattle.extraction.proofs.Rounding.{picked_is, round_done}
 use Rattle.extraction.proofs.Visiting.{all_visited, rule_room, rule_at_number, mark_at, mark_skip, mark_next}
 use Rattle.extraction.proofs.rounds.round.Given as given
 use Rattle.extraction.proofs.rounds.round.Goals as goal
 use Rattle.extraction.proofs.rounds.round.Goals.{then-is_fresh, else-is_fresh}
 
 -- the test that was made is that of the round
-tested : (g : given.Over) (c : goal.Joined-is_fresh g) → c.is_fresh.result ≡ fresh (contents c.args.book.now) (g.T.LocalityTest.local c.args.test.now) (set_of c.args.tables.now.handed) (set_of c.args.tables.now.kept) c.loop-number.number
+tested : (g : given.Over) (c : goal.Joined-is_fresh g) → c.is_fresh.result ≡ new_marks (contents c.args.book.now) (g.T.LocalityTest.local c.args.test.now) c.args.tables.now c.loop-number.number
 tested g c =
-    fresh_is (contents c.args.book.now) (g.T.LocalityTest.local c.args.test.now) (set_of c.args.tables.now.handed) (set_of c.args.tables.now.kept) _ c.loop-number.number _ _ _ _ (ap (λ t. set_of t c.loop-number.number) c.loop-number.invariant.0) (mark_at _ _ _ _ _ _ _ _ c.loop-number.invariant.1) (rule_at_number c.args.book.now _ c.terms.result.now c.loop-number.number _ c.axioms-filed-items.ensures c.terms.ensures c.loop-number-test.true) c.requires.consistent c.is_fresh.ensures
+    picked_is (contents c.args.book.now) (g.T.LocalityTest.local c.args.test.now) c.args.tables.now c.loop-number.number _ _ _ _ (ap (λ t. set_of t c.loop-number.number) c.loop-number.invariant.0) (mark_at _ _ _ _ _ _ _ _ c.loop-number.invariant.1) (rule_at_number c.args.book.now _ c.terms.result.now c.loop-number.number _ c.axioms-filed-items.ensures c.terms.ensures c.loop-number-test.true) c.is_fresh.ensures
 
 pub loop-number-preserved : goal.loop-number-preserved
 loop-number-preserved g c = elim c.if-is_fresh.branch [
@@ -30,6 +31,6 @@ loop-number-preserved g c = elim c.if-is_fresh.branch [
 
 pub returns : goal.returns
 returns g c =
-    round_done _ _ _ _ _ _ c.requires.inside c.requires.consistent
+    round_done _ _ _ _ _ _ c.requires
     (all_visited c.args.book.now _ _ c.axioms-filed-items.ensures c.loop-number.auto.number-end c.loop-number-test.false)
     c.loop-number.invariant.0 c.loop-number.invariant.1

@@ -2,7 +2,7 @@ use Rattle.std.proofs.Common.{List, map, ap, ◌∙◌}
 use mathlib.Core.Path.{fun_ext}
 use Rattle.book.specs.declared.book.Filed.{Filed}
 use Rattle.terms.specs.Tables.{nodes_of}
-use Rattle.extraction.specs.Listing.{set_of}
+use Rattle.locality.specs.Flags.{set_of}
 use Rattle.extraction.proofs.Filling.{flags_of_axioms}
 use Rattle.extraction.proofs.start.axioms_in_force.Goals as goal
 

@@ -1,5 +1,6 @@
 use Rattle.std.proofs.Common.{map}
-use Rattle.extraction.specs.Listing.{set_of, FilledTo}
+use Rattle.locality.specs.Flags.{set_of}
+use Rattle.extraction.specs.Listing.{FilledTo}
 use Rattle.extraction.proofs.start.choice.Given as goal
 
 abbrev pub invariant-loop-number : goal.invariant-loop-number

@@ -1,7 +1,6 @@
 use Rattle.std.proofs.Common.{length}
 use Rattle.book.specs.Calls.{contents}
-use Rattle.locality.specs.Tables.{listed_in}
-use Rattle.extraction.specs.Listing.{set_of}
+use Rattle.locality.specs.Flags.{set_of, listed_in}
 use Rattle.extraction.specs.Visits.{ListedTo}
 use Rattle.extraction.proofs.whole.list_names.Given as goal
 

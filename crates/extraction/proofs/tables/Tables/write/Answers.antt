@@ -1,8 +1,9 @@
 use Rattle.std.proofs.Common.{◌≡◌, ◌≤◌, length, ap, ◌∙◌, arith, rules}
-use Rattle.extraction.specs.Listing.{set_of}
-use Rattle.extraction.specs.Marking.{overwritten}
+use Rattle.book.specs.declared.book.Book.{Book}
+use Rattle.locality.specs.Flags.{set_of}
+use Rattle.extraction.specs.Marking.{flags_over}
 use Rattle.extraction.proofs.Accepting.{axiom_total, name_total}
-use Rattle.extraction.proofs.Counting.{overwritten_taken}
+use Rattle.extraction.proofs.Counting.{flags_over-taken}
 use Rattle.extraction.proofs.tables.Tables.write.Goals as goal
 
 pub returns : goal.returns
@@ -11,6 +12,6 @@ returns c =
     let closed : length c.args.self.now.closed ≡ 1024 = search rules in
     let axioms : length c.axioms.result.now ≤ 1024 = search rules in
     record {
-      axioms = c.write_flags.ensures ∙ overwritten_taken c.args.self.now.kept _ (omega arith) c.args.axioms.now ∙ ap (λ n. overwritten n (set_of c.args.self.now.kept) c.args.axioms.now) (axiom_total c.args.book.now _ c.axioms.ensures);
-      names = c.write_flags-2.ensures ∙ overwritten_taken c.args.self.now.closed _ (omega arith) c.args.names.now ∙ ap (λ n. overwritten n (set_of c.args.self.now.closed) c.args.names.now) (name_total c.args.book.now _ _ c.names.ensures c.count.ensures.value);
+      axioms = c.write_flags.ensures ∙ flags_over-taken c.args.self.now.kept _ (omega arith) c.args.axioms.now ∙ ap (λ n. flags_over n (set_of c.args.self.now.kept) c.args.axioms.now) (axiom_total c.args.rest.now _ (c.axioms.ensures ∙ ap (λ (b : Book). b.axioms) c.book-book.ensures.value));
+      names = c.write_flags-2.ensures ∙ flags_over-taken c.args.self.now.closed _ (omega arith) c.args.names.now ∙ ap (λ n. flags_over n (set_of c.args.self.now.closed) c.args.names.now) (name_total c.args.rest.now _ _ (c.names.ensures ∙ ap (λ (b : Book). b.names) c.book-book.ensures.value) c.count.ensures.value);
     }

@@ -1,22 +1,25 @@
--- The meaning of a stage, from the meaning of the extractor below it; and that of keeping all axioms in force.
-use Rattle.std.specs.Prelude.{◌≡◌, ℕ, ◌+◌, ◌<◌, Bool, true, refl}
+-- The meaning of keeping all axioms in force, and that of a stage and of a pile, from the meaning of the extractor below.
+use Rattle.std.specs.Prelude.{◌≡◌, ℕ, ◌+◌, ◌<◌, Bool, true, List, [], ◌∷◌, map, refl}
 use Rattle.std.proofs.Common.{◌∙◌, ⊎_elim, arith}
 use Rattle.std.proofs.Math.Nat.{min-le_right}
 use Rattle.std.proofs.lemmas.Bool.{cases_Bool, cond-true, and_from, or_right}
 use Rattle.vocabulary.specs.declared.name.NameId.{NameId}
 use Rattle.terms.specs.Forms.{Rule}
 use Rattle.book.specs.Contents.{Contents}
-use Rattle.locality.specs.Sound.{reset_has}
-use Rattle.locality.specs.Laws.{TestLaws}
+use Rattle.book.specs.Proper.{Sound}
+use Rattle.locality.specs.lemmas.Sound.{reset_has}
+use Rattle.locality.specs.Laws.{TestLaws, TestMeaning}
 use Rattle.locality.specs.Mentions.{in_rule}
 use Rattle.locality.specs.Worlds.{World, Names, Default, reset}
+use Rattle.extraction.specs.Extractions.{Extraction, whole, staged, piled}
 use Rattle.extraction.specs.Extractors.{Agree, AllHold, Meaning, Closed}
-use Rattle.extraction.specs.Rounds.{round_limit, add_rounds, stage_finish, stage_repair}
-use Rattle.extraction.specs.Sets.{Marks, Sound, axiom_count, rule_at, is_in_force, closed_signature}
-use Rattle.extraction.specs.Below.{some_from}
-use Rattle.extraction.specs.Coincide.{coincide}
-use Rattle.extraction.specs.Least.{closed_grows, stage_closed}
-use Rattle.extraction.specs.Names.{rule_counts_fit, in_force_below}
+use Rattle.extraction.specs.Rounds.{round_limit, stage_finish}
+use Rattle.extraction.specs.Sets.{Marks, axiom_count, rule_at, is_in_force, closed_signature}
+use Rattle.extraction.specs.lemmas.Below.{some_from}
+use Rattle.extraction.specs.lemmas.Coincide.{coincide}
+use Rattle.extraction.specs.lemmas.Least.{closed_grows, stage_closed}
+use Rattle.extraction.specs.lemmas.Limits.{stage_laws}
+use Rattle.extraction.specs.lemmas.Names.{rule_counts_fit, in_force_below}
 
 -- a world that is reset agrees with what it was on the listed names
 reset_agrees : (default : Default) (listed : Names) (w : World) → Agree listed w (reset default listed w)
@@ -51,27 +54,36 @@ reset_holds b local default laws right handed part s closed w holds k up =
     (λ e. laws.holds (rule_at b k) listed (reset default listed w) (reset_has default listed w) (rule_counts_fit b right k) (closed.others k up e))
     (cases_Bool (s k))
 
--- the meaning of a stage
-pub stage_meaning : (b : Contents) (local : Rule → Names → Bool) (default : Default) → TestLaws local default → Sound b → (kept : Marks) (repair : World → World) (rounds : ℕ) → Meaning b kept repair rounds → Meaning b (stage_finish b local kept).marked (stage_repair default (closed_signature b (stage_finish b local kept).marked) repair) (add_rounds rounds (stage_finish b local kept).rounds)
-stage_meaning b local default laws right kept repair rounds below =
-    let marked = (stage_finish b local kept).marked in
-    let listed = closed_signature b marked in
-    let closed = stage_closed b local kept below.part in
-    record {
-      part = λ k h. below.part k (closed.part k h);
-      untouched = λ w.
-          agree_through listed (closed_signature b kept) w (reset default listed w) _ (closed_grows b marked kept closed.part) (reset_agrees default listed w) (below.untouched (reset default listed w));
-      repaired = λ w holds.
-          below.repaired (reset default listed w) (reset_holds b local default laws right kept below.part marked closed w holds);
-      limited = min-le_right (rounds + (stage_finish b local kept).rounds) round_limit;
-    }
-
 -- the meaning of keeping all axioms in force
-pub whole_meaning : (b : Contents) → Meaning b (is_in_force b) (λ w. w) 0
+pub whole_meaning : (b : Contents) → Meaning b (whole b)
 whole_meaning b = record {
   part = λ k h. h;
   untouched = λ w.
       record { elements = refl; individuals = λ a. refl; concepts = λ n x h l. refl; roles = λ n x y h l m. refl };
   repaired = λ w holds. holds;
   limited = omega arith;
+  levels = tt;
 }
+
+module _ (b : Contents) (right : Sound b) where
+  -- the meaning of a stage
+  pub staged_meaning : (local : Rule → Names → Bool) (default : Default) → TestLaws local default → (below : Extraction) → Meaning b below → Meaning b (staged b local default below)
+  staged_meaning local default laws below means =
+      let marked = (stage_finish b local below.kept).marked in
+      let listed = closed_signature b marked in
+      let closed = stage_closed b local below.kept means.part in
+      record {
+        part = λ k h. means.part k (closed.part k h);
+        untouched = λ w.
+            agree_through listed (closed_signature b below.kept) w (reset default listed w) _ (closed_grows b marked below.kept closed.part) (reset_agrees default listed w) (means.untouched (reset default listed w));
+        repaired = λ w holds.
+            means.repaired (reset default listed w) (reset_holds b local default laws right below.kept means.part marked closed w holds);
+        limited = min-le_right (below.rounds + (stage_finish b local below.kept).rounds) round_limit;
+        levels = (stage_laws b local default laws right below.kept means.part below.rounds, means.levels);
+      }
+
+  -- the meaning of a pile
+  pub piled_meaning : {T : Type 0} (meaning : T → TestMeaning) → ((t : T) → TestLaws (meaning t).local (meaning t).default) → (below : Extraction) → Meaning b below → (tests : List T) → Meaning b (piled b (map meaning tests) below)
+  piled_meaning meaning laws below means [] = means
+  piled_meaning meaning laws below means (t ∷ tests) =
+      staged_meaning (meaning t).local (meaning t).default (laws t) (piled b (map meaning tests) below) (piled_meaning meaning laws below means tests)

@@ -5,10 +5,10 @@ use Rattle.std.proofs.lemmas.Bool.{cases_Bool}
 use Rattle.terms.specs.Forms.{Rule}
 use Rattle.book.specs.Contents.{Contents}
 use Rattle.locality.specs.Worlds.{Names}
-use Rattle.extraction.specs.Rounds.{Run, last, next, Finish, none, more, busy, rounds_from, stage_finish}
+use Rattle.extraction.specs.Rounds.{Run, last, next, Finish, no_axiom, after_round, marks_more, rounds_from, stage_finish}
 use Rattle.extraction.specs.Sets.{Marks, axiom_count, size}
-use Rattle.extraction.specs.Below.{count_most}
-use Rattle.extraction.specs.Steady.{rounds_more, rounds_last, more_grows}
+use Rattle.extraction.specs.lemmas.Below.{count_most}
+use Rattle.extraction.specs.lemmas.Steady.{rounds_more, rounds_last, after_round-grows}
 
 module _ (b : Contents) (local : Rule → Names → Bool) (handed : Marks) where
   -- where the axioms unmarked are fewer than the rounds allowed, the rounds come to their end
@@ -17,12 +17,12 @@ module _ (b : Contents) (local : Rule → Names → Bool) (handed : Marks) where
   runs (suc most) s l =
       ⊎_elim
       (λ h.
-      let grows = more_grows b local handed s h in
-      subst (λ (f : Finish). Run b local handed s f.marked f.rounds) (sym (rounds_more b local handed most s h)) (next h (runs most (more b local handed s) (omega arith))))
+      let grows = after_round-grows b local handed s h in
+      subst (λ (f : Finish). Run b local handed s f.marked f.rounds) (sym (rounds_more b local handed most s h)) (next h (runs most (after_round b local handed s) (omega arith))))
       (λ h. subst (λ (f : Finish). Run b local handed s f.marked f.rounds) (sym (rounds_last b local handed most s h)) (last h))
-      (cases_Bool (busy b local handed s))
+      (cases_Bool (marks_more b local handed s))
 
   -- a stage is allowed enough rounds to come to its end
-  pub stage_run : Run b local handed none (stage_finish b local handed).marked (stage_finish b local handed).rounds
+  pub stage_run : Run b local handed no_axiom (stage_finish b local handed).marked (stage_finish b local handed).rounds
   unfolding stage_finish
-  stage_run = runs (suc (axiom_count b)) none (omega arith)
+  stage_run = runs (suc (axiom_count b)) no_axiom (omega arith)

@@ -8,10 +8,11 @@ use Rattle.terms.specs.declared.term.RoleItem.{RoleItem}
 use Rattle.terms.specs.declared.term.RoleItem.TheVariants.{Forward, Inverse}
 use Rattle.terms.specs.Forms.{Form, Rule, nothing, everything, concept, just, negation, both, exists, at_least, inclusion, equivalence, role_inclusion, transitive, functional, member, related}
 use Rattle.locality.specs.Meaning.{leads, belongs, Holds}
-use Rattle.locality.specs.Mentions.{same, role_of, in_term, in_rule}
+use Rattle.terms.specs.Roles.{role_name}
+use Rattle.locality.specs.Mentions.{same, in_term, in_rule}
 use Rattle.locality.specs.Worlds.{World, Names}
 use Rattle.extraction.specs.Extractors.{Agree}
-use Rattle.extraction.specs.Below.{some_same, count_same}
+use Rattle.extraction.specs.lemmas.Below.{some_same, count_same}
 
 -- a name stands for itself
 same_self : (n : NameId) → same n n ≡ true
@@ -23,14 +24,14 @@ module _ (listed : Names) (w v : World) (agree : Agree listed w v) where
   within x l = let e = agree.elements in omega arith
 
   -- a listed role leads to the same elements in both worlds
-  leads_same : (r : RoleItem) → listed (role_of r) ≡ true → (x y : ℕ) → x < w.size → y < w.size → leads v r x y ≡ leads w r x y
+  leads_same : (r : RoleItem) → listed (role_name r) ≡ true → (x y : ℕ) → x < w.size → y < w.size → leads v r x y ≡ leads w r x y
   leads_same (Forward r) h x y l m = agree.roles r x y h l m
   leads_same (Inverse r) h x y l m = agree.roles r y x h m l
 
   -- an element has the same partners in a term in both worlds
-  partner_same : (r : RoleItem) (f : Form) → ((n : NameId) → (same (role_of r) n || in_term f n) ≡ true → listed n ≡ true) → ((y : ℕ) → y < w.size → belongs v f y ≡ belongs w f y) → (x : ℕ) → x < w.size → (y : ℕ) → y < w.size → (leads v r x y && belongs v f y) ≡ (leads w r x y && belongs w f y)
+  partner_same : (r : RoleItem) (f : Form) → ((n : NameId) → (same (role_name r) n || in_term f n) ≡ true → listed n ≡ true) → ((y : ℕ) → y < w.size → belongs v f y ≡ belongs w f y) → (x : ℕ) → x < w.size → (y : ℕ) → y < w.size → (leads v r x y && belongs v f y) ≡ (leads w r x y && belongs w f y)
   partner_same r f h e x l y m =
-      ap₂ ◌&&◌ (leads_same r (h (role_of r) (or_left _ _ (same_self (role_of r)))) x y l m) (e y m)
+      ap₂ ◌&&◌ (leads_same r (h (role_name r) (or_left _ _ (same_self (role_name r)))) x y l m) (e y m)
 
   -- an element is in a term in both worlds or in neither
   belongs_same : (f : Form) → ((n : NameId) → in_term f n ≡ true → listed n ≡ true) → (x : ℕ) → x < w.size → belongs v f x ≡ belongs w f x
@@ -57,7 +58,7 @@ module _ (listed : Names) (w v : World) (agree : Agree listed w v) where
   coincide (role_inclusion r s) h holds = λ x y k l in-r.
       let k' = within x k in
       let l' = within y l in
-      leads_same s (h (role_of s) (or_right _ _ (same_self (role_of s)))) x y k' l' ∙ holds x y k' l' (sym (leads_same r (h (role_of r) (or_left _ _ (same_self (role_of r)))) x y k' l') ∙ in-r)
+      leads_same s (h (role_name s) (or_right _ _ (same_self (role_name s)))) x y k' l' ∙ holds x y k' l' (sym (leads_same r (h (role_name r) (or_left _ _ (same_self (role_name r)))) x y k' l') ∙ in-r)
   coincide (transitive r) h holds = λ x y z k l m first second.
       let e = h r (same_self r) in
       let k' = within x k in
@@ -65,7 +66,7 @@ module _ (listed : Names) (w v : World) (agree : Agree listed w v) where
       let m' = within z m in
       agree.roles r x z e k' m' ∙ holds x y z k' l' m' (sym (agree.roles r x y e k' l') ∙ first) (sym (agree.roles r y z e l' m') ∙ second)
   coincide (functional r) h holds = λ x y z k l m first second.
-      let e = leads_same r (h (role_of r) (same_self (role_of r))) in
+      let e = leads_same r (h (role_name r) (same_self (role_name r))) in
       let k' = within x k in
       let l' = within y l in
       let m' = within z m in

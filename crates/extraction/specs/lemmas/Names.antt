@@ -12,13 +12,16 @@ use Rattle.std.specs.List.{list_all}
 use Rattle.terms.specs.declared.term.RoleItem.{RoleItem}
 use Rattle.terms.specs.declared.term.RoleItem.TheVariants.{Forward, Inverse}
 use Rattle.terms.specs.Forms.{Form, Rule, nothing, everything, concept, just, negation, both, exists, at_least, inclusion, equivalence, role_inclusion, transitive, functional, member, related}
-use Rattle.terms.specs.Reading.{wanted}
+use Rattle.terms.specs.Reading.{is_of_kind}
+use Rattle.terms.specs.Limits.{greatest_count}
 use Rattle.terms.specs.WellFormed.{name_fits, role_fits, numbers_fit, term_fits, well_formed}
 use Rattle.book.specs.Contents.{Contents, sound}
-use Rattle.locality.specs.Counts.{counts_in, counts_fit}
-use Rattle.locality.specs.Mentions.{same, role_of, in_term, in_rule}
-use Rattle.extraction.specs.Sets.{Marks, Sound, no_filing, no_entity, axiom_count, name_count, rule_at, is_in_force, signature, closed_signature}
-use Rattle.extraction.specs.Below.{some_at}
+use Rattle.terms.specs.Counts.{counts_in, counts_fit}
+use Rattle.terms.specs.Roles.{role_name}
+use Rattle.book.specs.Proper.{Sound}
+use Rattle.locality.specs.Mentions.{same, in_term, in_rule}
+use Rattle.extraction.specs.Sets.{Marks, no_filing, no_entity, axiom_count, name_count, rule_at, is_in_force, signature, closed_signature}
+use Rattle.extraction.specs.lemmas.Below.{some_at}
 
 module _ {X : Type 0} (p : X → Bool) (d : X) where
   -- what passes a test that the default fails stands before the end
@@ -36,13 +39,13 @@ module _ (names : List Entity) where
   -- a number that belongs to a name is below the count of names
   fits_below : (k : Kind) (n : NameId) → name_fits names k n ≡ true → n.0 < length names
   fits_below k n h =
-      ⊎_elim (λ l. l) (λ l. absurd (both_ways _ refl (ap (λ o. wanted o k) (kind_past names n.0 l) ∙ h))) (cases_lt n.0 (length names))
+      ⊎_elim (λ l. l) (λ l. absurd (both_ways _ refl (ap (λ o. is_of_kind o k) (kind_past names n.0 l) ∙ h))) (cases_lt n.0 (length names))
 
   -- and so is each that stands in a name, a role or a term that fits
   same_below : (k : Kind) (m n : NameId) → name_fits names k m ≡ true → same m n ≡ true → n.0 < length names
   same_below k m n h e = let l = fits_below k m h in let is = eqb-true m.0 n.0 e in omega arith
 
-  role_below : (r : RoleItem) (n : NameId) → role_fits names r ≡ true → same (role_of r) n ≡ true → n.0 < length names
+  role_below : (r : RoleItem) (n : NameId) → role_fits names r ≡ true → same (role_name r) n ≡ true → n.0 < length names
   role_below (Forward r) n = same_below Role r n
   role_below (Inverse r) n = same_below Role r n
 
@@ -56,10 +59,10 @@ module _ (names : List Entity) where
       let parts = and_parts _ _ h in ⊎_elim (term_below f n parts.0) (term_below g n parts.1) (or_cases _ _ e)
   term_below (exists r f) n h e =
       let parts = and_parts (role_fits names r) _ h in
-      ⊎_elim (role_below r n parts.0) (term_below f n parts.1) (or_cases (same (role_of r) n) _ e)
+      ⊎_elim (role_below r n parts.0) (term_below f n parts.1) (or_cases (same (role_name r) n) _ e)
   term_below (at_least m r f) n h e =
-      let parts = and_parts (role_fits names r) _ (and_parts (nat_le 1 m && nat_le m 65535) _ h).1 in
-      ⊎_elim (role_below r n parts.0) (term_below f n parts.1) (or_cases (same (role_of r) n) _ e)
+      let parts = and_parts (role_fits names r) _ (and_parts (nat_le 1 m && nat_le m greatest_count) _ h).1 in
+      ⊎_elim (role_below r n parts.0) (term_below f n parts.1) (or_cases (same (role_name r) n) _ e)
 
   -- the numbers of a term that fits, which also has not too many levels
   numbers : (f : Form) → term_fits names f ≡ true → numbers_fit names f ≡ true
@@ -96,7 +99,7 @@ module _ (names : List Entity) where
       let parts = and_parts _ _ h in and_from _ _ (counts_term f parts.0) (counts_term g parts.1)
   counts_term (exists r f) h = counts_term f (and_parts (role_fits names r) _ h).1
   counts_term (at_least m r f) h =
-      let parts = and_parts (nat_le 1 m && nat_le m 65535) _ h in
+      let parts = and_parts (nat_le 1 m && nat_le m greatest_count) _ h in
       and_from _ _ (and_parts (nat_le 1 m) _ parts.0).0 (counts_term f (and_parts (role_fits names r) _ parts.1).1)
 
   well_counts : (r : Rule) → well_formed names r ≡ true → counts_fit r ≡ true
@@ -128,7 +131,10 @@ rule_counts_fit b right k = well_counts b.names (rule_at b k) (rule_well b right
 pub in_force_below : (b : Contents) (k : ℕ) → is_in_force b k ≡ true → k < axiom_count b
 in_force_below b k = at_below (λ f. f.in_force) no_filing refl b.axioms k
 
--- each name of a closed signature is one of the book's
+-- a seeded name is one of the book's, and so is each name of a closed signature
+pub signature_below : (b : Contents) (n : NameId) → signature b n ≡ true → n.0 < name_count b
+signature_below b n = at_below (λ e. e.seeded) no_entity refl b.names n.0
+
 pub closed_below : (b : Contents) → Sound b → (s : Marks) (n : NameId) → closed_signature b s n ≡ true → n.0 < name_count b
 closed_below b right s n h =
-    ⊎_elim (at_below (λ e. e.seeded) no_entity refl b.names n.0) (λ e. let found = some_at (axiom_count b) _ e in rule_names b right found.0 n (and_parts (s found.0) _ found.2).1) (or_cases (signature b n) _ h)
+    ⊎_elim (signature_below b n) (λ e. let found = some_at (axiom_count b) _ e in rule_names b right found.0 n (and_parts (s found.0) _ found.2).1) (or_cases (signature b n) _ h)

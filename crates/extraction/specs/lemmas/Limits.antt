@@ -7,21 +7,22 @@ use Rattle.std.proofs.lemmas.Bool.{both_ways, not-true, not_from_false, cases_Bo
 use Rattle.vocabulary.specs.declared.name.NameId.{NameId}
 use Rattle.terms.specs.Forms.{Rule}
 use Rattle.book.specs.Contents.{Contents}
+use Rattle.book.specs.Proper.{Sound}
 use Rattle.locality.specs.Laws.{TestLaws}
 use Rattle.locality.specs.Meaning.{some_below}
 use Rattle.locality.specs.Worlds.{Names, Default}
 use Rattle.extraction.specs.Extractors.{StageLaws}
-use Rattle.extraction.specs.Rounds.{Run, last, next, more, busy, round_limit, add_rounds, stage_finish}
-use Rattle.extraction.specs.Sets.{Marks, Sound, axiom_count, name_count, rule_at, is_in_force, closed_signature, drawn_in, size, names_in}
-use Rattle.extraction.specs.Below.{some_at, none_at, count_more, count_grows}
-use Rattle.extraction.specs.Least.{closed_grows, left_local, stage_closed, stage_least}
-use Rattle.extraction.specs.Names.{rule_names}
-use Rattle.extraction.specs.Runs.{stage_run}
-use Rattle.extraction.specs.Steady.{fresh_parts, more_grows}
+use Rattle.extraction.specs.Rounds.{Run, last, next, after_round, marks_more, round_limit, add_rounds, stage_finish}
+use Rattle.extraction.specs.Sets.{Marks, axiom_count, name_count, rule_at, is_in_force, closed_signature, names_drawn_in, size, list_size}
+use Rattle.extraction.specs.lemmas.Below.{some_at, none_at, count_more, count_grows}
+use Rattle.extraction.specs.lemmas.Least.{closed_grows, left_local, stage_closed, stage_least}
+use Rattle.extraction.specs.lemmas.Names.{rule_names}
+use Rattle.extraction.specs.lemmas.Runs.{stage_run}
+use Rattle.extraction.specs.lemmas.Steady.{round_marks-parts, after_round-grows}
 
 -- how many names a set of axioms draws in
 abbrev drawn : Contents → Marks → ℕ
-drawn b s = names_in b (drawn_in b s)
+drawn b s = list_size b (names_drawn_in b s)
 
 -- the name with this number is in the closed signature of the second set only
 abbrev new : Contents → Marks → Marks → ℕ → Bool
@@ -29,7 +30,7 @@ new b s t n = not (closed_signature b s (record { 0 = n })) && closed_signature 
 
 module _ (b : Contents) (s t : Marks) (part : (k : ℕ) → s k ≡ true → t k ≡ true) where
   -- a set with more axioms draws in no fewer names
-  drawn_in_is : (n : NameId) → drawn_in b s n ≡ true → drawn_in b t n ≡ true
+  drawn_in_is : (n : NameId) → names_drawn_in b s n ≡ true → names_drawn_in b t n ≡ true
   drawn_in_is n e =
       let parts = and_parts (closed_signature b s n) _ e in
       and_from _ _ (closed_grows b s t part n parts.0) parts.1
@@ -57,33 +58,33 @@ module _ (b : Contents) (local : Rule → Names → Bool) (handed : Marks) where
   -- every round but the last marks an axiom
   run_marked : {s e : Marks} {r : ℕ} → Run b local handed s e r → r + size b s ≤ size b e + 1
   run_marked (last h) = omega arith
-  run_marked {s} (next h run) = let rest = run_marked run in let grows = more_grows b local handed s h in omega arith
+  run_marked {s} (next h run) = let rest = run_marked run in let grows = after_round-grows b local handed s h in omega arith
 
   -- what is marked stays marked
-  kept : (s : Marks) (k : ℕ) → s k ≡ true → more b local handed s k ≡ true
+  kept : (s : Marks) (k : ℕ) → s k ≡ true → after_round b local handed s k ≡ true
   kept s k e = or_left _ _ e
 
   module _ (default : Default) (laws : TestLaws local default) (right : Sound b) where
     -- a round marks an axiom only if the round before it drew in a name
-    busy_drawn : (s : Marks) → busy b local handed (more b local handed s) ≡ true → drawn b s < drawn b (more b local handed s)
+    busy_drawn : (s : Marks) → marks_more b local handed (after_round b local handed s) ≡ true → drawn b s < drawn b (after_round b local handed s)
     busy_drawn s h =
         let found = some_at (axiom_count b) _ h in
         let k = found.0 in
-        let parts = fresh_parts b local handed (more b local handed s) k found.2 in
+        let parts = round_marks-parts b local handed (after_round b local handed s) k found.2 in
         let out = or_parts (s k) _ parts.1 in
         let was = left_local b local handed s k parts.0 out.0 out.1 in
         ⊎_elim
-        (drawn_grows b s (more b local handed s) (kept s))
+        (drawn_grows b s (after_round b local handed s) (kept s))
         (λ e.
-        absurd (both_ways _ parts.2 (sym (laws.depends (rule_at b k) (closed_signature b s) (closed_signature b (more b local handed s)) (λ n f. drawn_same b s (more b local handed s) (kept s) e n (rule_names b right k n f))) ∙ was)))
-        (cases_Bool (some_below (name_count b) (new b s (more b local handed s))))
+        absurd (both_ways _ parts.2 (sym (laws.depends (rule_at b k) (closed_signature b s) (closed_signature b (after_round b local handed s)) (λ n f. drawn_same b s (after_round b local handed s) (kept s) e n (rule_names b right k n f))) ∙ was)))
+        (cases_Bool (some_below (name_count b) (new b s (after_round b local handed s))))
 
     -- so from s on there is at most one round more than names drawn in since the round that led to s, before which there
     -- were m
-    run_drawn : {s e : Marks} {r : ℕ} → Run b local handed s e r → (m : ℕ) → m ≤ drawn b s → (busy b local handed s ≡ true → m < drawn b s) → r + m ≤ drawn b e + 1
+    run_drawn : {s e : Marks} {r : ℕ} → Run b local handed s e r → (m : ℕ) → m ≤ drawn b s → (marks_more b local handed s ≡ true → m < drawn b s) → r + m ≤ drawn b e + 1
     run_drawn (last h) m l f = omega arith
     run_drawn {s} (next h run) m l f =
-        let rest = run_drawn run (drawn b s) (drawn_more b s (more b local handed s) (kept s)) (busy_drawn s) in
+        let rest = run_drawn run (drawn b s) (drawn_more b s (after_round b local handed s) (kept s)) (busy_drawn s) in
         let less = f h in
         omega arith
 
@@ -91,7 +92,7 @@ module _ (b : Contents) (local : Rule → Names → Bool) (handed : Marks) where
     all_drawn : {s e : Marks} {r : ℕ} → Run b local handed s e r → r ≤ drawn b e + 2
     all_drawn (last h) = omega arith
     all_drawn {s} (next h run) =
-        let rest = run_drawn run (drawn b s) (drawn_more b s (more b local handed s) (kept s)) (busy_drawn s) in omega arith
+        let rest = run_drawn run (drawn b s) (drawn_more b s (after_round b local handed s) (kept s)) (busy_drawn s) in omega arith
 
 -- what holds of a stage
 pub stage_laws : (b : Contents) (local : Rule → Names → Bool) (default : Default) → TestLaws local default → Sound b → (handed : Marks) → ((k : ℕ) → handed k ≡ true → is_in_force b k ≡ true) → (below : ℕ) → StageLaws b local handed (stage_finish b local handed).marked below (add_rounds below (stage_finish b local handed).rounds)

@@ -8,12 +8,12 @@ use Rattle.book.specs.Contents.{Contents}
 use Rattle.locality.specs.Laws.{TestLaws}
 use Rattle.locality.specs.Worlds.{Names, Default}
 use Rattle.extraction.specs.Extractors.{Closed}
-use Rattle.extraction.specs.Rounds.{Run, last, next, fresh, stage_finish}
+use Rattle.extraction.specs.Rounds.{Run, last, next, round_marks, stage_finish}
 use Rattle.extraction.specs.Sets.{Marks, axiom_count, rule_at, is_in_force, signature, closed_signature}
-use Rattle.extraction.specs.Below.{some_at, some_from, none_at}
-use Rattle.extraction.specs.Names.{in_force_below}
-use Rattle.extraction.specs.Runs.{stage_run}
-use Rattle.extraction.specs.Steady.{fresh_parts}
+use Rattle.extraction.specs.lemmas.Below.{some_at, some_from, none_at}
+use Rattle.extraction.specs.lemmas.Names.{in_force_below}
+use Rattle.extraction.specs.lemmas.Runs.{stage_run}
+use Rattle.extraction.specs.lemmas.Steady.{round_marks-parts}
 
 -- more axioms have more names
 pub closed_grows : (b : Contents) (s t : Marks) → ((k : ℕ) → s k ≡ true → t k ≡ true) → (n : NameId) → closed_signature b s n ≡ true → closed_signature b t n ≡ true
@@ -28,7 +28,7 @@ closed_grows b s t h n e =
 
 module _ (b : Contents) (local : Rule → Names → Bool) (handed : Marks) where
   -- one handed up that a round leaves unmarked is local
-  pub left_local : (s : Marks) (k : ℕ) → handed k ≡ true → s k ≡ false → fresh b local handed s k ≡ false → local (rule_at b k) (closed_signature b s) ≡ true
+  pub left_local : (s : Marks) (k : ℕ) → handed k ≡ true → s k ≡ false → round_marks b local handed s k ≡ false → local (rule_at b k) (closed_signature b s) ≡ true
   left_local s k up out h =
       ⊎_elim
       (λ e. absurd (both_ways _ e up))
@@ -43,13 +43,13 @@ module _ (b : Contents) (local : Rule → Names → Bool) (handed : Marks) where
       others = λ k up out. left_local s k up out (none_at (axiom_count b) _ h k (known k up));
     }
     run_closed {s} (next h run) part =
-        run_closed run (λ k e. ⊎_elim (part k) (λ f. (fresh_parts b local handed s k f).0) (or_cases (s k) _ e))
+        run_closed run (λ k e. ⊎_elim (part k) (λ f. (round_marks-parts b local handed s k f).0) (or_cases (s k) _ e))
 
   module _ (default : Default) (laws : TestLaws local default) (c : Marks) (closed : Closed b local handed c) where
     -- a round from a part of a closed set marks axioms of that set
-    fresh_within : (s : Marks) → ((k : ℕ) → s k ≡ true → c k ≡ true) → (k : ℕ) → fresh b local handed s k ≡ true → c k ≡ true
-    fresh_within s h k f =
-        let parts = fresh_parts b local handed s k f in
+    round_marks-within : (s : Marks) → ((k : ℕ) → s k ≡ true → c k ≡ true) → (k : ℕ) → round_marks b local handed s k ≡ true → c k ≡ true
+    round_marks-within s h k f =
+        let parts = round_marks-parts b local handed s k f in
         ⊎_elim
         (λ e. e)
         (λ e. absurd (both_ways _ parts.2 (laws.shrinks (rule_at b k) (closed_signature b c) (closed_signature b s) (closed_grows b s c h) (closed.others k parts.0 e))))
@@ -59,7 +59,7 @@ module _ (b : Contents) (local : Rule → Names → Bool) (handed : Marks) where
     run_least : {s e : Marks} {r : ℕ} → Run b local handed s e r → ((k : ℕ) → s k ≡ true → c k ≡ true) → (k : ℕ) → e k ≡ true → c k ≡ true
     run_least (last h) part = part
     run_least {s} (next h run) part =
-        run_least run (λ k e. ⊎_elim (part k) (fresh_within s part k) (or_cases (s k) _ e))
+        run_least run (λ k e. ⊎_elim (part k) (round_marks-within s part k) (or_cases (s k) _ e))
 
   -- what a stage marks is closed
   pub stage_closed : ((k : ℕ) → handed k ≡ true → is_in_force b k ≡ true) → Closed b local handed (stage_finish b local handed).marked

@@ -1,0 +1,9 @@
+pub mod Below
+pub mod Names
+pub mod Coincide
+pub mod Midway
+pub mod Steady
+pub mod Runs
+pub mod Least
+pub mod Limits
+pub mod Repaired
