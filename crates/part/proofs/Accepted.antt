@@ -1,173 +1,100 @@
 -- What a record was that a book took, and what it did: a name's, a seed's or an axiom's as it is written.
-use Rattle.std.proofs.Common.{◌≡◌, ℕ, ◌+◌, ◌*◌, ◌<◌, Bool, true, false, cond, eqb, ltb, leb, List, [], ◌∷◌, ◌++◌, length, Some, None, Ok, Err, Option, Result, sym, refl, ap, ◌∙◌, ap₂}
-use Rattle.std.specs.Option.{ok_or}
+use Rattle.std.proofs.Common.{◌≡◌, ℕ, ◌<◌, true, ltb, List, [], ◌∷◌, length, get_or, zero, suc, Some, Result, sym, refl, ap, ◌∙◌, subst, ap₂, arith, ltb-true}
 use Rattle.std.proofs.lemmas.List.{take_all}
-use Rattle.std.proofs.lemmas.Bool.{eqb-true, ltb-true, cond-true, cond-false}
-use Rattle.vocabulary.specs.declared.fault.NameFault.{NameFault}
-use Rattle.vocabulary.specs.declared.fault.NameFault.TheVariants.{BadKind, LabelTaken, TableFull}
+use Rattle.std.proofs.lemmas.Bool.{and_parts}
 use Rattle.vocabulary.specs.declared.kind.Kind.{Kind}
 use Rattle.vocabulary.specs.declared.kind.Kind.TheVariants.{Concept, Role, Individual}
-use Rattle.vocabulary.specs.declared.name.NameId.{NameId}
-use Rattle.vocabulary.specs.Entities.{Entity, labelling, held, reseed}
+use Rattle.vocabulary.specs.Entities.{reseed}
 use Rattle.vocabulary.specs.Kinds.{kind_of, code_of}
-use Rattle.refusals.specs.Turns.{Turn, accepted, refused}
-use Rattle.vocabulary.specs.Naming.{fresh, naming, naming_with}
-use Rattle.vocabulary.proofs.Kept.{labelling_same}
+use Rattle.vocabulary.specs.Naming.{new_name}
+use Rattle.refusals.specs.Turns.{Turn, accepted_turn}
 use Rattle.terms.specs.declared.«axiom».AxiomKind.{AxiomKind}
-use Rattle.terms.specs.declared.«axiom».AxiomKind.TheVariants.{Inclusion, Equivalence, RoleInclusion, Transitive, Functional, ConceptAssertion, RoleAssertion}
-use Rattle.terms.specs.declared.fault.ItemFault.TheVariants.{WrongName}
-use Rattle.terms.specs.Codes.{axiom_kind_of}
-use Rattle.terms.specs.Forms.{Rule}
-use Rattle.terms.specs.Reading.{Outcome, got, bad, read_axiom}
-use Rattle.terms.specs.Writing.{two_bytes, body_bytes, rule_kind}
-use Rattle.terms.proofs.SameBytes.{same_bytes}
-use Rattle.book.specs.declared.book.AxiomId.{AxiomId}
-use Rattle.book.specs.declared.fault.BookFault.{BookFault}
-use Rattle.book.specs.declared.fault.BookFault.TheVariants.{Item, Name, LeftOver}
-use Rattle.book.specs.declared.fault.FileFault.TheVariants.{BodyTooLong, Book}
-use Rattle.book.specs.Contents.{Contents, bodies_length}
-use Rattle.book.specs.Calls.{raise, admission, admitting, adding, obstacle_of, filing_of, naming_call}
-use Rattle.book.proofs.Admitting.{nothing_against}
-use Rattle.records.specs.Files.{Entry, word_at}
-use Rattle.records.specs.Loading.{record_turn, taken_as, done, name_record, seed_record, bounded}
-use Rattle.part.specs.Order.{all_bytes, seed_number}
 use Rattle.terms.specs.Codes.{kind_number}
-use Rattle.part.specs.Parts.{name_entry, seed_entry, axiom_entry, forced}
-use Rattle.part.proofs.Split.{refused_not, byte_at}
+use Rattle.terms.specs.Forms.{Rule}
+use Rattle.terms.specs.Numbers.{number_of, number_at, two_bytes}
 use Rattle.terms.proofs.Numbers.{chosen, none_chosen, two_bytes_are}
+use Rattle.terms.proofs.SameBytes.{same_bytes}
+use Rattle.book.specs.Contents.{Contents}
+use Rattle.book.specs.Calls.{with_axiom}
+use Rattle.records.specs.declared.kind.RecordKind.{RecordKind}
+use Rattle.records.specs.declared.kind.RecordKind.TheVariants as Kind'
+use Rattle.records.specs.Files.{Entry}
+use Rattle.records.specs.Kinds.{name_kind, seed_kind, record_number}
+use Rattle.records.specs.Taking.{IsNaming, IsFiling, IsSeeding, IsAskedCall, IsTaken}
+use Rattle.records.proofs.Asked.{refused_not}
+use Rattle.part.specs.Order.{seed_number}
+use Rattle.records.specs.Files.{all_bytes}
+use Rattle.part.specs.Parts.{name_entry, seed_entry, axiom_entry}
+use Rattle.part.proofs.Answered.{with_name, Naming, Adding, Seeding, made, not_made, naming_way, adding_way, seeding_way}
 
--- a call that a test might refuse was not refused by it
-passed : {S A F : Type 0} (t : Bool) (s : S) (f : F) (turn : Turn S (Result A F)) (m : S) (x : A) → cond t (refused s f) turn ≡ accepted m x → turn ≡ accepted m x
-passed true s f turn m x h = absurd (refused_not s m f x h)
-passed false s f turn m x h = h
+-- each of a list of bytes is one, and so is what is read past its end
+pub byte_at : (xs : List ℕ) → all_bytes xs ≡ true → (i : ℕ) → get_or xs i 0 < 256
+byte_at [] h i = omega arith
+byte_at (x ∷ xs) h zero = ltb-true x 256 (and_parts (ltb x 256) _ h).0
+byte_at (x ∷ xs) h (suc i) = byte_at xs (and_parts (ltb x 256) _ h).1 i
 
--- an answer that was told at the layer above, and one without its value
-raise_ok : {A F G : Type 0} (up : F → G) (r : Result A F) (x : A) → raise up r ≡ Ok x → r ≡ Ok x
-raise_ok up (Ok y) x e = let is : y ≡ x = cc in ap Ok is
-raise_ok up (Err f) x e = absurd (cc)
-
-done_ok : {A F : Type 0} (r : Result A F) → done r ≡ Ok tt → (x : A) × (r ≡ Ok x)
-done_ok (Ok x) e = (x, refl)
-done_ok (Err f) e = absurd (cc)
-
-taken_ok : {A F G : Type 0} (up : F → G) (t : Turn Contents (Result A F)) (m : Contents) → taken_as up t ≡ accepted m tt → (x : A) × (t ≡ accepted m x)
-taken_ok up t m h =
-    let d = done_ok (raise up t.answer) (ap (λ u. u.answer) h) in
-    (d.0, ap₂ (λ s a. record { state = s; answer = a }) (ap (λ u. u.state) h) (raise_ok up t.answer d.0 d.1))
-
--- a record with a body that is not too long
-bounded_ok : (b m : Contents) (body : List ℕ) (t : Turn Contents (Result (Unit {0}) BookFault)) → bounded b body t ≡ accepted m tt → t ≡ accepted m tt
-bounded_ok b m body t h = (taken_ok Book t m (passed (ltb 512 (length body)) b BodyTooLong (taken_as Book t) m tt h)).1
+-- ---- the number of a kind
 
 kind_byte : (n : ℕ) (k : Kind) → kind_of n ≡ Some k → n ≡ code_of k
 kind_byte n =
     let more = chosen code_of n in
     more 0 Concept _ refl (more 1 Role _ refl (more 2 Individual _ refl (none_chosen code_of n)))
 
-axiom_number : (n : ℕ) (k : AxiomKind) → axiom_kind_of n ≡ Some k → n ≡ kind_number k
-axiom_number n =
-    let more = chosen kind_number n in
-    more 16 Inclusion _ refl
-    (more 17 Equivalence _ refl
-    (more 18 RoleInclusion _ refl
-    (more 19 Transitive _ refl
-    (more 20 Functional _ refl
-    (more 21 ConceptAssertion _ refl
-    (more 22 RoleAssertion _ refl
-    (none_chosen kind_number n)))))))
+-- ---- what a record was
 
--- ---- a name
+pub data Was (b : Contents) (e : Entry) (c : Contents) : Type 0 where
+  a_name : (k : Kind) (l : List ℕ) → e ≡ name_entry (new_name k l) → c ≡ with_name b k l → Was b e c
+  a_seed : seed_number e < length b.names → e ≡ seed_entry (seed_number e) → c ≡ record { names = reseed b.names (seed_number e) true; axioms = b.axioms } → Was b e c
+  an_axiom : (r : Rule) → e ≡ axiom_entry r → c ≡ with_axiom b r → Was b e c
 
--- a name that was made
-name_made : (es ns : List Entity) (n : ℕ) (l : List ℕ) (i : NameId) → naming es n l ≡ accepted ns i → (k : Kind) × (code_of k ≡ n) × (ns ≡ es ++ fresh k l ∷ [])
-unfolding naming
-name_made es ns n l i = go (kind_of n) (labelling l) refl refl
-  where
-    go : (o : Option Kind) (r : Result (List ℕ) NameFault) → kind_of n ≡ o → labelling l ≡ r → naming_with es (ok_or o BadKind) r ≡ accepted ns i → (k : Kind) × (code_of k ≡ n) × (ns ≡ es ++ fresh k l ∷ [])
-    go None r is own h = absurd (refused_not _ _ _ _ h)
-    go (Some k) (Err f) is own h = absurd (refused_not _ _ _ _ h)
-    go (Some k) (Ok m) is own h =
-        let done = accepted (es ++ fresh k m ∷ []) (record { 0 = length es }) in
-        let free = passed (held k m es) es LabelTaken (cond (leb 1024 (length es)) (refused es TableFull) done) ns i h in
-        let made = ap (λ t. t.state) (passed (leb 1024 (length es)) es TableFull done ns i free) in
-        (k, sym (kind_byte n k is), sym made ∙ ap (λ x. es ++ fresh k x ∷ []) (labelling_same l m (sym own)))
+-- a call was accepted in one way
+same_state : {A F : Type 0} {turn : Turn Contents (Result A F)} {c d : Contents} {x y : A} → turn ≡ accepted_turn c x → turn ≡ accepted_turn d y → c ≡ d
+same_state h i = ap (λ t. t.state) (sym h ∙ i)
 
--- a record with its kind and its body written in another way
-entry_is : (e : Entry) (kind : ℕ) (body : List ℕ) → e.kind ≡ kind → e.body ≡ body → e ≡ record { kind = kind; body = body }
-entry_is e kind body k b = ap₂ (λ x y. record { kind = x; body = y }) k b
+module _ (b c : Contents) (e : Entry) where
+  -- the record, with its kind and its body written in another way
+  entry_is : (kind : ℕ) (body : List ℕ) → e.kind ≡ kind → e.body ≡ body → e ≡ record { kind = kind; body = body }
+  entry_is kind body k l = ap₂ (λ x y. record { kind = x; body = y }) k l
 
--- the record of a name that was taken made it
-pub name_was : (b m : Contents) (e : Entry) → eqb e.kind 1 ≡ true → record_turn b e ≡ accepted m tt → (k : Kind) × (l : List ℕ) × (e ≡ name_entry (fresh k l)) × (m ≡ record { names = b.names ++ fresh k l ∷ []; axioms = b.axioms })
-name_was b m e is h = go e.body refl (bounded_ok b m e.body (name_record b e.body) (sym (cond-true _ _ _ is) ∙ h))
-  where
-    go : (body : List ℕ) → e.body ≡ body → name_record b body ≡ accepted m tt → (k : Kind) × (l : List ℕ) × (e ≡ name_entry (fresh k l)) × (m ≡ record { names = b.names ++ fresh k l ∷ []; axioms = b.axioms })
-    go [] own t = absurd (refused_not _ _ _ _ t)
-    go (n ∷ l) own t =
-        let call = taken_ok (λ f. f) (naming_call b n l) m t in
-        let answer = raise_ok Name (naming b.names n l).answer call.0 (ap (λ u. u.answer) call.1) in
-        let made = name_made b.names _ n l call.0 (ap (λ a. record { state = (naming b.names n l).state; answer = a }) answer) in (
-          made.0,
-          l,
-          entry_is e 1 _ (eqb-true e.kind 1 is) (own ∙ ap (λ k. k ∷ l) (sym made.1)),
-          sym (ap (λ u. u.state) call.1) ∙ ap (λ ns. record { names = ns; axioms = b.axioms }) made.2,
-        )
+  name_was : e.kind ≡ name_kind → IsNaming b e.body c → Was b e c
+  name_was is n = go (naming_way b n.kind n.label)
+    where
+      go : Naming b n.kind n.label → Was b e c
+      go (made k can h) =
+          a_name k n.label (entry_is name_kind _ is (n.is_body ∙ ap (λ x. x ∷ n.label) (kind_byte n.kind k can.kind_is))) (same_state n.accepted h)
+      go (not_made f h) = absurd (refused_not _ _ _ _ (sym h ∙ n.accepted))
 
--- ---- a seed
+  seed_was : all_bytes e.body ≡ true → e.kind ≡ seed_kind → IsSeeding b e.body c → Was b e c
+  seed_was bytes is s = go (seeding_way b (number_of s.low s.high) true)
+    where
+      number : seed_number e ≡ number_of s.low s.high
+      number = ap (λ l. number_at l 0) s.is_body
 
--- a name of the book that was seeded, by its number and nothing after it
-seed_made : (b m : Contents) (body : List ℕ) → all_bytes body ≡ true → seed_record b body ≡ accepted m tt → (word_at body 0 < length b.names) × (body ≡ two_bytes (word_at body 0)) × (m ≡ record { names = reseed b.names (word_at body 0) true; axioms = b.axioms })
-seed_made b m [] bytes h = absurd (refused_not _ _ _ _ h)
-seed_made b m (low ∷ []) bytes h = absurd (refused_not _ _ _ _ h)
-seed_made b m (low ∷ high ∷ []) bytes h = go (ltb (low + 256 * high) (length b.names)) refl h
-  where
-    done : Contents
-    done = record { names = reseed b.names (low + 256 * high) true; axioms = b.axioms }
+      written : e.body ≡ two_bytes (seed_number e)
+      written =
+          let low : s.low < 256 = byte_at (s.low ∷ s.high ∷ []) (ap all_bytes (sym s.is_body) ∙ bytes) 0 in
+          s.is_body ∙ sym (ap two_bytes number ∙ two_bytes_are s.low s.high low)
 
-    go : (t : Bool) → ltb (low + 256 * high) (length b.names) ≡ t → cond t (accepted {A = Unit {0}} done tt) (refused b (Item (WrongName 0))) ≡ accepted m tt → (low + 256 * high < length b.names) × (low ∷ high ∷ [] ≡ two_bytes (low + 256 * high)) × (m ≡ done)
-    go true is e =
-        (ltb-true (low + 256 * high) (length b.names) is, sym (two_bytes_are low high (byte_at (low ∷ high ∷ []) bytes 0)), sym (ap (λ t. t.state) e))
-    go false is e = absurd (refused_not _ _ _ _ e)
-seed_made b m (low ∷ high ∷ x ∷ rest) bytes h =
-    absurd (refused_not _ _ _ _ (passed (ltb (low + 256 * high) (length b.names)) b (LeftOver 2) (refused b (Item (WrongName 0))) m tt h))
+      go : Seeding b (number_of s.low s.high) true → Was b e c
+      go (made inside h) =
+          a_seed (subst (λ n. n < length b.names) (sym number) inside) (entry_is seed_kind _ is written)
+          (same_state s.accepted h ∙ ap (λ n. record { names = reseed b.names n true; axioms = b.axioms }) (sym number))
+      go (not_made f h) = absurd (refused_not _ _ _ _ (sym h ∙ s.accepted))
 
--- the record of a seed that was taken seeded a name of the book
-pub seed_was : (b m : Contents) (e : Entry) → all_bytes e.body ≡ true → eqb e.kind 1 ≡ false → eqb e.kind 32 ≡ true → record_turn b e ≡ accepted m tt → (seed_number e < length b.names) × (e ≡ seed_entry (seed_number e)) × (m ≡ record { names = reseed b.names (seed_number e) true; axioms = b.axioms })
-seed_was b m e bytes not is h =
-    let turn = sym (cond-true _ _ _ is) ∙ sym (cond-false _ _ _ not) ∙ h in
-    let made = seed_made b m e.body bytes (bounded_ok b m e.body (seed_record b e.body) turn) in
-    (made.0, entry_is e 32 _ (eqb-true e.kind 32 is) made.1, made.2)
+  axiom_was : all_bytes e.body ≡ true → (k : AxiomKind) → e.kind ≡ kind_number k → IsFiling b e.body c k → Was b e c
+  axiom_was bytes k is f = go (adding_way b k e.body)
+    where
+      go : Adding b k e.body → Was b e c
+      go (made r can h) =
+          let same = same_bytes e.body b.names k r can.end (byte_at e.body bytes) can.read in
+          an_axiom r (entry_is _ _ (is ∙ ap kind_number (sym same.1)) (sym (same.0 ∙ take_all can.end e.body can.whole))) (same_state f.accepted h)
+      go (not_made g h) = absurd (refused_not _ _ _ _ (sym h ∙ f.accepted))
 
--- ---- an axiom
-
--- an axiom that was filed is of a kind that there is
-kind_filed : (b m : Contents) (o : Option AxiomKind) (body : List ℕ) (x : AxiomId) → filing_of b o body ≡ accepted m x → (k : AxiomKind) × (o ≡ Some k) × (admission b k body ≡ accepted m x)
-kind_filed b m None body x h = absurd (refused_not _ _ _ _ h)
-kind_filed b m (Some k) body x h =
-    let call = passed (ltb 512 (length body)) b BodyTooLong (record { state = (admission b k body).state; answer = raise Book (admission b k body).answer }) m x h in
-    (k, refl, ap₂ (λ s a. record { state = s; answer = a }) (ap (λ t. t.state) call) (raise_ok Book (admission b k body).answer x (ap (λ t. t.answer) call)))
-
--- its body is what it is written as
-body_filed : (b m : Contents) (k : AxiomKind) (body : List ℕ) (x : AxiomId) → all_bytes body ≡ true → admission b k body ≡ accepted m x → (r : Rule) × (rule_kind r ≡ k) × (body ≡ body_bytes r) × (m ≡ record { names = b.names; axioms = b.axioms ++ forced r ∷ [] })
-unfolding admission
-body_filed b m k body x bytes = go (read_axiom body b.names k) refl
-  where
-    added : (r : Rule) (end : ℕ) (o : Option BookFault) → read_axiom body b.names k ≡ got r end → obstacle_of (length b.axioms) (bodies_length b.axioms) (length body) end ≡ o → adding b r o ≡ accepted m x → (r : Rule) × (rule_kind r ≡ k) × (body ≡ body_bytes r) × (m ≡ record { names = b.names; axioms = b.axioms ++ forced r ∷ [] })
-    added r end (Some f) is free h = absurd (refused_not _ _ _ _ h)
-    added r end None is free h =
-        let whole = (nothing_against _ _ _ _ (sym free)).0 in
-        let same = same_bytes body b.names k r end (byte_at body bytes) is in
-        (r, same.1, sym (same.0 ∙ take_all end body whole), sym (ap (λ t. t.state) h))
-
-    go : (o : Outcome Rule) → read_axiom body b.names k ≡ o → admitting b (length body) o ≡ accepted m x → (r : Rule) × (rule_kind r ≡ k) × (body ≡ body_bytes r) × (m ≡ record { names = b.names; axioms = b.axioms ++ forced r ∷ [] })
-    go (bad f) is h = absurd (refused_not _ _ _ _ h)
-    go (got r end) is h = added r end _ is refl h
-
--- the record of an axiom that was taken filed it
-pub axiom_was : (b m : Contents) (e : Entry) → all_bytes e.body ≡ true → eqb e.kind 1 ≡ false → eqb e.kind 32 ≡ false → record_turn b e ≡ accepted m tt → (r : Rule) × (e ≡ axiom_entry r) × (m ≡ record { names = b.names; axioms = b.axioms ++ forced r ∷ [] })
-axiom_was b m e bytes not neither h =
-    let turn = sym (cond-false _ _ _ neither) ∙ sym (cond-false _ _ _ not) ∙ h in
-    let call = taken_ok (λ f. f) (filing_of b (axiom_kind_of e.kind) e.body) m turn in
-    let kind = kind_filed b m (axiom_kind_of e.kind) e.body call.0 call.1 in
-    let made = body_filed b m kind.0 e.body call.0 bytes kind.2 in
-    let number = axiom_number e.kind kind.0 kind.1 ∙ ap kind_number (sym made.1) in
-    (made.0, entry_is e _ _ number made.2, made.3)
+  -- a record of bytes that was taken
+  pub was : all_bytes e.body ≡ true → IsTaken b e c → Was b e c
+  was bytes t = go t.kind (sym t.known) t.call
+    where
+      go : (k : RecordKind) → e.kind ≡ record_number k → IsAskedCall b e.body c k → Was b e c
+      go Kind'.Name is call = name_was is call
+      go (Kind'.Axiom k) is call = axiom_was bytes k is call
+      go Kind'.Seed is call = seed_was bytes is call

@@ -1,21 +1,23 @@
 -- A part that is written is loaded back.
-use Rattle.std.proofs.Common.{◌≡◌, ℕ, suc, ◌≤◌, true, List, [], ◌∷◌, ◌++◌, map, length, sym, refl, ap, ◌∙◌, arith, length-append}
+use Rattle.std.proofs.Common.{◌≡◌, ℕ, suc, ◌≤◌, true, List, [], ◌∷◌, ◌++◌, map, length, sym, refl, ap, ◌∙◌, subst, arith, length-append}
 use lib.ListN.{length-map}
 use Rattle.std.proofs.lemmas.List.Sums.{sum_by-cons}
 use Rattle.std.proofs.lemmas.Bool.{and_parts, and_from, cond_both}
 use Rattle.vocabulary.specs.Entities.{Entity}
 use Rattle.std.specs.List.{list_all}
-use Rattle.refusals.specs.Turns.{accepted}
+use Rattle.refusals.specs.Turns.{accepted_turn}
 use Rattle.book.specs.Contents.{Contents, Filing, body_length, bodies_length, sound}
 use Rattle.book.specs.Calls.{empty}
-use Rattle.records.specs.Files.{Entry}
+use Rattle.book.specs.Proper.{Proper}
+use Rattle.records.specs.Files.{Entry, record_bytes, file_bytes}
+use Rattle.records.specs.Taking.{AreTaken}
+use Rattle.records.proofs.Files.{records_few}
 use Rattle.records.specs.Loading.{loading}
 use Rattle.extraction.specs.Sets.{Marks}
 use Rattle.std.proofs.lemmas.List.Concat.{flat_map-append}
-use Rattle.part.specs.Parts.{record_bytes, file_bytes, name_entry, seed_entry, axiom_entry, seeds_from, kept_from, forced, part_bytes, part_contents, record_count}
-use Rattle.part.specs.Proper.{Proper}
-use Rattle.part.proofs.RoundTrips.{LoadsBack}
-use Rattle.part.proofs.Entries.{Takes, takes_append, takes_loads, records_few}
+use Rattle.part.specs.Parts.{name_entry, seed_entry, axiom_entry, seeds_from, kept_from, forced, part_bytes, part_contents, record_count}
+use Rattle.part.specs.Writing.{ReadBack}
+use Rattle.part.proofs.Taken.{are_taken_append, taken_loads}
 use Rattle.part.proofs.NamesTaken.{plain, unseeded, names_taken}
 use Rattle.part.proofs.SeedsTaken.{no_axioms, seeds_taken}
 use Rattle.part.proofs.AxiomsTaken.{axioms_taken}
@@ -58,18 +60,20 @@ module _ (b : Contents) (kept : Marks) where
   part_count = simp (length-append, length-map)
 
   -- they are taken one after the other by an empty book
-  part_taken : Proper b → Takes empty part_entries (part_contents b kept)
+  part_taken : Proper b → AreTaken empty part_entries (part_contents b kept)
   part_taken p =
-      takes_append (map name_entry b.names) _ empty (plain b.names) _ (names_taken [] b.names b.names refl p.labels p.apart p.few_names)
-      (takes_append (map seed_entry (seeds_from 0 b.names)) _ (plain b.names) (no_axioms b.names) _ (seeds_taken [] b.names (map unseeded b.names) b.names 0 refl refl refl)
+      are_taken_append (map name_entry b.names) _ empty (plain b.names) _ (names_taken [] b.names b.names refl p.labels p.apart p.few_names)
+      (are_taken_append (map seed_entry (seeds_from 0 b.names)) _ (plain b.names) (no_axioms b.names) _ (seeds_taken [] b.names (map unseeded b.names) b.names 0 refl refl refl)
       (axioms_taken b.names [] (kept_from 0 kept b.axioms) _ refl (kept_sound kept b.names 0 b.axioms p.right)
       (let few = kept_few kept 0 b.axioms in let most = p.few_axioms in omega arith)
       (let short = kept_short kept 0 b.axioms in let most = p.few_bytes in omega arith)))
 
 -- a part that is written is loaded back
-pub loads_back : LoadsBack
+pub loads_back : (b : Contents) → Proper b → (kept : Marks) → ReadBack b kept
 unfolding loading
 loads_back b p kept =
-    let file = part_file b kept in
-    takes_loads (part_bytes b kept) (part_entries b kept) (length (part_bytes b kept)) 0 0 empty (part_contents b kept) file (omega (arith, records_few (part_entries b kept), ap length file)) (part_taken b kept p) ∙
-    ap (accepted (part_contents b kept)) (omega (arith, part_count b kept))
+    let es = part_entries b kept in
+    let back : loading empty (file_bytes es) ≡ accepted_turn (part_contents b kept) (record_count b kept) =
+    taken_loads (length (file_bytes es)) es empty (part_contents b kept) 0 0 (records_few es) (part_taken b kept p) ∙
+    ap (accepted_turn (part_contents b kept)) (omega (arith, part_count b kept)) in
+    subst (λ file. loading empty file ≡ accepted_turn (part_contents b kept) (record_count b kept)) (sym (part_file b kept)) back

@@ -3,7 +3,7 @@ use Rattle.std.proofs.Common.{◌≡◌, ℕ, zero, suc, ◌+◌, ◌*◌, ◌^�
 use lib.ListN.{length-map}
 use Rattle.std.proofs.lemmas.List.Concat.{flat_map-append}
 use Rattle.std.proofs.lemmas.List.Sums.{sum_by-cons}
-use Rattle.vocabulary.specs.Labels.{fitting}
+use Rattle.vocabulary.specs.Labels.{has_label_length}
 use Rattle.std.specs.List.{list_all}
 use Rattle.std.proofs.lemmas.Bool.{leb-true, cond_both, and_parts}
 use Rattle.std.proofs.lemmas.List.{map_push, take_more}
@@ -16,9 +16,10 @@ use Rattle.terms.specs.WellFormed.{well_formed}
 use Rattle.book.specs.declared.book.Filed.{Filed}
 use Rattle.book.specs.Contents.{Contents, Filing, filing, body_length, bodies_length, sound}
 use Rattle.extraction.specs.Sets.{Marks}
-use Rattle.records.specs.Files.{Entry}
-use Rattle.part.specs.Parts.{record_bytes, file_bytes, name_entry, seed_entry, axiom_entry, name_as_record, seed_as_record, axiom_as_record, seeds_from, kept_from, part_bytes, part_names, part_seeds, part_axioms}
-use Rattle.part.specs.Proper.{Proper, well_labelled}
+use Rattle.book.specs.Proper.{Proper, well_labelled}
+use Rattle.codec.specs.Bodies.{longest_body}
+use Rattle.records.specs.Files.{Entry, record_bytes, file_bytes}
+use Rattle.part.specs.Parts.{name_entry, seed_entry, axiom_entry, name_as_record, seed_as_record, axiom_as_record, seeds_from, kept_from, part_bytes, part_names, part_seeds, part_axioms}
 
 -- ---- the bytes of the first names and axioms of a book
 
@@ -107,12 +108,12 @@ module _ (ts : List Term) (kept : Marks) (fs : List Filed) (i j : ℕ) (f : File
       ap (λ l. file_bytes (map axiom_entry l)) (kept_more ∙ ap (λ b. so_far ++ cond b (rule ts f.«axiom» ∷ []) []) off ∙ append-nil so_far) ∙
       sym (append-nil (axioms_bytes ts kept (take i fs)))
 
--- no axiom of a book has a body of more than 512 bytes
-pub body_short : (names : List Entity) (ts : List Term) (fs : List Filed) (i : ℕ) (f : Filed) → list_all (sound names) (map (filing ts) fs) ≡ true → i < length fs → f ≡ get_or fs i f → length (body_bytes (rule ts f.«axiom»)) ≤ 512
+-- no axiom of a book has a body that is too long
+pub body_short : (names : List Entity) (ts : List Term) (fs : List Filed) (i : ℕ) (f : Filed) → list_all (sound names) (map (filing ts) fs) ≡ true → i < length fs → f ≡ get_or fs i f → length (body_bytes (rule ts f.«axiom»)) ≤ longest_body
 body_short names ts [] i f h inside is = absurd (omega arith)
 body_short names ts (x ∷ fs) zero f h inside is =
-    let short = leb-true (body_length (filing ts x)) 512 (and_parts (well_formed names (filing ts x).states) _ (and_parts (sound names (filing ts x)) _ h).0).1 in
-    subst (λ y. length (body_bytes (rule ts y.«axiom»)) ≤ 512) (sym is) short
+    let short = leb-true (body_length (filing ts x)) longest_body (and_parts (well_formed names (filing ts x).states) _ (and_parts (sound names (filing ts x)) _ h).0).1 in
+    subst (λ y. length (body_bytes (rule ts y.«axiom»)) ≤ longest_body) (sym is) short
 body_short names ts (x ∷ fs) (suc i) f h inside is = body_short names ts fs i f (and_parts (sound names (filing ts x)) _ h).1 (omega arith) is
 
 -- ---- a usize holds the length of a part
@@ -121,7 +122,7 @@ names_few : (es : List Entity) → list_all well_labelled es ≡ true → length
 names_few [] h = omega arith
 names_few (e ∷ es) h =
     let p = and_parts (well_labelled e) _ h in
-    let short = leb-true (length e.label) 32 (and_parts (leb 1 (length e.label)) _ (and_parts (fitting e.label) _ p.0).0).1 in
+    let short = leb-true (length e.label) 32 (and_parts (leb 1 (length e.label)) _ (and_parts (has_label_length e.label) _ p.0).0).1 in
     omega (arith, names_few es p.1, length-append e.label (file_bytes (map name_entry es)))
 
 seeds_few : (k : ℕ) (es : List Entity) → length (file_bytes (map seed_entry (seeds_from k es))) ≤ 6 * length es

@@ -1,4 +1,4 @@
 pub mod Parts
-pub mod Proper
 pub mod Order
 pub mod Writing
+pub mod Fitting

@@ -1,24 +1,16 @@
 -- The part of a book that a set of its axioms makes, as a file of records: all names in the order of their numbers, then
 -- the numbers of the seeded names, ascending and each once, then the axioms of the set in the order filed.
-use Rattle.std.specs.Prelude.{ℕ, suc, ◌+◌, true, cond, List, [], ◌∷◌, ◌++◌, map, length}
-use Rattle.std.specs.List.{flat_map}
+use Rattle.std.specs.Prelude.{ℕ, suc, ◌+◌, true, List, [], ◌∷◌, ◌++◌, map, length, if◌then◌else◌}
 use Rattle.vocabulary.specs.Entities.{Entity}
 use Rattle.vocabulary.specs.Kinds.{code_of}
 use Rattle.terms.specs.Forms.{Rule}
-use Rattle.terms.specs.Writing.{two_bytes, body_bytes, rule_kind}
+use Rattle.terms.specs.Writing.{body_bytes, rule_kind}
+use Rattle.terms.specs.Numbers.{two_bytes}
 use Rattle.book.specs.Contents.{Contents, Filing}
 use Rattle.records.specs.declared.kind.RecordKind.TheVariants.{Name, Axiom, Seed}
-use Rattle.records.specs.Files.{Entry}
+use Rattle.records.specs.Files.{Entry, record_bytes, file_bytes}
 use Rattle.records.specs.Kinds.{record_number}
 use Rattle.extraction.specs.Sets.{Marks}
-
--- a record as bytes: the two-byte length of its body, its two-byte kind, and the body
-abbrev pub record_bytes : Entry → List ℕ
-record_bytes e = two_bytes (length e.body) ++ (two_bytes e.kind ++ e.body)
-
--- records one after the other
-abbrev pub file_bytes : List Entry → List ℕ
-file_bytes es = flat_map record_bytes es
 
 -- the record of a name: its kind byte, then its label
 abbrev pub name_entry : Entity → Entry
@@ -44,12 +36,12 @@ axiom_as_record r = record_bytes (axiom_entry r)
 -- the numbers of the seeded names, where the first name has the number n
 abbrev pub seeds_from : ℕ → List Entity → List ℕ
 seeds_from n [] = []
-seeds_from n (e ∷ es) = cond e.seeded (n ∷ seeds_from (suc n) es) (seeds_from (suc n) es)
+seeds_from n (e ∷ es) = if e.seeded then n ∷ seeds_from (suc n) es else seeds_from (suc n) es
 
 -- what the axioms of the set state, where the first axiom has the number k
 abbrev pub kept_from : ℕ → Marks → List Filing → List Rule
 kept_from k kept [] = []
-kept_from k kept (f ∷ fs) = cond (kept k) (f.states ∷ kept_from (suc k) kept fs) (kept_from (suc k) kept fs)
+kept_from k kept (f ∷ fs) = if kept k then f.states ∷ kept_from (suc k) kept fs else kept_from (suc k) kept fs
 
 -- an axiom in force
 abbrev pub forced : Rule → Filing

@@ -1,62 +1,60 @@
 -- What writing a part answers, and what it leaves in its three buffers.
-use Rattle.std.specs.Prelude.{◌≡◌, ℕ, Bool, true, cond, ◌||◌, List, ◌++◌, length, drop, Ok, Result, nat_lt}
-use Rattle.refusals.specs.Turns.{Turn, accepted, refused}
+use Rattle.std.specs.Prelude.{◌≡◌, ℕ, Bool, true, ◌||◌, List, length, Ok, Result, if◌then◌else◌, nat_lt}
+use Rattle.refusals.specs.Turns.{Turn, accepted_turn, refused_turn}
 use Rattle.book.specs.Contents.{Contents}
 use Rattle.book.specs.Calls.{contents, empty}
 use Rattle.records.specs.Loading.{loading}
 use Rattle.extraction.specs.declared.marking.MarkFault.{MarkFault}
 use Rattle.extraction.specs.declared.marking.MarkFault.TheVariants.{EmptySignature, ShortBuffer}
-use Rattle.extraction.specs.Listing.{set_of}
-use Rattle.extraction.specs.Marking.{by_number, overwritten, unseeded, too_short}
-use Rattle.extraction.specs.Sets.{Marks, axiom_count, name_count, is_in_force, closed_signature}
+use Rattle.locality.specs.Flags.{set_of}
+use Rattle.extraction.specs.Marking.{Buffers, lent, is_unseeded, is_too_short, marked_buffers}
+use Rattle.extraction.specs.Sets.{Marks, is_in_force}
+use Rattle.writer.specs.Placing.{overlay}
 use Rattle.part.specs.declared.writing.sections.Part.{Part}
-use Rattle.part.specs.Order.{all_bytes, entries_of, in_writer_order}
+use Rattle.records.specs.Files.{entries_of}
+use Rattle.part.specs.Order.{in_writer_order}
+use Rattle.records.specs.Files.{all_bytes}
 use Rattle.part.specs.Parts.{part_axioms, part_bytes, part_contents, record_count}
 
--- the buffer for the marks of the axioms, the one for those of the names, and the one for the part
-pub record Buffers : Type 0 where
-  pub axioms : List ℕ
-  pub names : List ℕ
+-- the buffers for the marks, and the one for the part
+pub record PartBuffers : Type 0 where
+  pub marks : Buffers
   pub part : List ℕ
 
--- bytes over the first bytes of a buffer; later bytes stay
-abbrev pub laid_over : List ℕ → List ℕ → List ℕ
-laid_over bytes old = bytes ++ drop (length bytes) old
+abbrev pub lent_for_part : List ℕ → List ℕ → List ℕ → PartBuffers
+lent_for_part axioms names part = record { marks = lent axioms names; part = part }
 
 module _ (b : Contents) (kept : Marks) where
   -- a buffer for marks is too short, or the one for the part has fewer bytes than the part
-  abbrev pub lacks_room : Buffers → Bool
+  abbrev pub lacks_room : PartBuffers → Bool
   lacks_room buffers =
-      too_short b (record { axioms = buffers.axioms; names = buffers.names }) || nat_lt (length buffers.part) (length (part_bytes b kept))
+      is_too_short b buffers.marks || nat_lt (length buffers.part) (length (part_bytes b kept))
 
-  abbrev pub written_buffers : Buffers → Buffers
+  abbrev pub written_buffers : PartBuffers → PartBuffers
   written_buffers buffers = record {
-    axioms = overwritten (axiom_count b) kept buffers.axioms;
-    names = overwritten (name_count b) (by_number (closed_signature b kept)) buffers.names;
-    part = laid_over (part_bytes b kept) buffers.part;
+    marks = marked_buffers b kept buffers.marks;
+    part = overlay 0 (part_bytes b kept) buffers.part;
   }
 
   -- writing with an extractor that keeps this set: an empty signature is refused first, then a buffer that is too
   -- short, and a refusal changes no buffer; the answer is how many bytes the part has
-  abbrev pub writing : Buffers → Turn Buffers (Result ℕ MarkFault)
+  abbrev pub writing : PartBuffers → Turn PartBuffers (Result ℕ MarkFault)
   writing buffers =
-      cond (unseeded b) (refused buffers EmptySignature)
-      (cond (lacks_room buffers) (refused buffers ShortBuffer) (accepted (written_buffers buffers) (length (part_bytes b kept))))
+      if is_unseeded b then refused_turn buffers EmptySignature
+      else if lacks_room buffers then refused_turn buffers ShortBuffer
+      else accepted_turn (written_buffers buffers) (length (part_bytes b kept))
 
   -- the part is loaded back: the same names with the same signature, and the axioms of the set, all in force
   abbrev pub ReadBack : Type 0
-  ReadBack = loading empty (part_bytes b kept) ≡ accepted (part_contents b kept) (record_count b kept)
+  ReadBack = loading empty (part_bytes b kept) ≡ accepted_turn (part_contents b kept) (record_count b kept)
 
   -- the part is in the writer's order; where the book came by loading a file in that order, and all axioms in force are
   -- kept, the part is that file
   pub record WrittenAgain : Type 0 where
     pub ordered : in_writer_order (entries_of (part_bytes b kept)) ≡ true
-    pub same : (file : List ℕ) (n : ℕ) → all_bytes file ≡ true → (loading empty file).answer ≡ Ok n → in_writer_order (entries_of file) ≡ true → b ≡ (loading empty file).state → kept ≡ is_in_force b → part_bytes b kept ≡ file
-
--- the buffers hold what the turn leaves, and r is its answer
-pub record WritesAs (axioms names part : List ℕ) (r : Result ℕ MarkFault) (turn : Turn Buffers (Result ℕ MarkFault)) : Type 0 where
-  pub buffers : record { axioms = axioms; names = names; part = part } ≡ turn.state
-  pub answer : r ≡ turn.answer
+    pub same : (file : List ℕ) (n : ℕ) → all_bytes file ≡ true → (loading empty file).answer ≡ Ok n →
+        in_writer_order (entries_of file) ≡ true → b ≡ (loading empty file).state → kept ≡ is_in_force b →
+        part_bytes b kept ≡ file
 
 -- the bytes of a part that is at hand, and those of its axioms
 abbrev pub part_written : Part → List ℕ

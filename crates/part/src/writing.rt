@@ -1,4 +1,4 @@
-// Writing the part of a frozen book.
+// Writing the part of a book at rest.
 mod call;
 mod entries;
 mod sections;

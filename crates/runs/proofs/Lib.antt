@@ -1,7 +1,7 @@
 pub mod Numbering
-pub mod Answered
 pub mod Telling
 pub mod Taken
 pub mod Told
-pub mod Upholding
-pub mod Delivering
+pub mod Lists
+pub mod Kept
+pub mod Promising

@@ -1,5 +1,5 @@
 -- The standing that follows from events, and how each event changes it as its call does.
-use Rattle.std.proofs.Common.{◌≡◌, ℕ, ◌<◌, ◌≤◌, Bool, true, false, not, ◌&&◌, ◌||◌, eqb, List, [], ◌∷◌, ◌++◌, length, Option, sym, refl, ap, ◌∙◌, subst, ap₂, subst₂, arith, length-append, eq-eqb, ne_eqb}
+use Rattle.std.proofs.Common.{◌≡◌, ℕ, ◌<◌, ◌≤◌, Bool, true, false, not, ◌&&◌, ◌||◌, eqb, List, [], ◌∷◌, ◌++◌, length, Option, Result, sym, refl, ap, ◌∙◌, subst, ap₂, subst₂, arith, length-append, eq-eqb, ne_eqb}
 use Rattle.vocabulary.specs.declared.kind.Kind.{Kind}
 use Rattle.vocabulary.specs.declared.name.NameId.{NameId}
 use Rattle.vocabulary.specs.Kinds.{kind_of}
@@ -10,21 +10,20 @@ use Rattle.terms.specs.Codes.{axiom_kind_of}
 use Rattle.terms.specs.Forms.{Rule}
 use Rattle.terms.specs.Reading.{read_axiom}
 use Rattle.book.specs.declared.book.AxiomId.{AxiomId}
-use Rattle.book.specs.declared.fault.BookFault.{BookFault}
+use Rattle.vocabulary.specs.declared.fault.NameFault.{NameFault}
+use Rattle.vocabulary.specs.declared.fault.NoSuchName.{NoSuchName}
 use Rattle.book.specs.declared.fault.FileFault.{FileFault}
+use Rattle.book.specs.declared.fault.NoSuchAxiom.{NoSuchAxiom}
 use Rattle.book.specs.Contents.{Contents, reforce}
-use Rattle.book.specs.Calls.{naming_call, seeding_call, forcing_call, filing_call}
+use Rattle.book.specs.Calls.{with_axiom, naming_call, seeding_call, forcing_call, filing_call}
 use Rattle.runs.specs.Steps.{Standing, start}
-use Rattle.runs.specs.History.{Event, named, filed, laid_aside, restored, seeded, unseeded, is_still_in_force, is_seeded, is_frozen, names_made, axioms_filed, book_after, if_accepted, if_known, if_read, after_naming, after_filing, after_seeding}
-use Rattle.runs.proofs.Numbering.{numbered_length, numbered_push, numbered_same, forced, Switched, designated_switched, forced_switched}
-use Rattle.runs.proofs.Answered.{with_name, with_axiom, Naming, Filing, Seeding, Forcing, made, not_made, naming_way, filing_way, seeding_way, forcing_way}
+use Rattle.runs.specs.History.{Event, named, filed, laid_aside, restored, seeded, unseeded, is_still_in_force, is_seeded, status_after, names_made, axioms_filed, book_after, standing_after, if_accepted, if_known, if_read, after_naming, after_filing, after_seeding, after_forcing}
+use Rattle.runs.proofs.Numbering.{map_by_number_length, map_by_number_push, map_by_number_same, forced, Switched, designated_switched, forced_switched}
+use Rattle.part.proofs.Answered.{with_name, Naming, Filing, Seeding, Forcing, made, not_made, naming_way, filing_way, seeding_way, forcing_way}
 
--- what follows from the events, and the same with another book
-abbrev standing_after : List Event → Standing
-standing_after past = record { frozen = is_frozen past; book = book_after past }
-
+-- what follows from the events, with another book
 abbrev with_book : List Event → Contents → Standing
-with_book past b = record { frozen = is_frozen past; book = b }
+with_book past b = record { status = status_after past; book = b }
 
 -- the standing follows from the events, and no number past the names made is seeded
 pub record Tells (past : List Event) (s : Standing) : Type 0 where
@@ -51,10 +50,10 @@ module _ (past : List Event) (late : (n : ℕ) → length (names_made past) ≤ 
 
   -- as many names as were made, as many axioms as were filed
   names_count : length (book_after past).names ≡ length (names_made past)
-  names_count = numbered_length _ (names_made past)
+  names_count = map_by_number_length _ (names_made past)
 
   axioms_count : length (book_after past).axioms ≡ length (axioms_filed past)
-  axioms_count = numbered_length _ (axioms_filed past)
+  axioms_count = map_by_number_length _ (axioms_filed past)
 
   -- ---- the events
 
@@ -64,7 +63,7 @@ module _ (past : List Event) (late : (n : ℕ) → length (names_made past) ≤ 
     agrees =
         ap (λ l. with_book past (record { names = l; axioms = (book_after past).axioms })) (
         ap (λ s. (book_after past).names ++ record { kind = kind; label = label; seeded = s } ∷ []) (sym (late (length (names_made past)) (omega arith))) ∙
-        sym (numbered_push _ (names_made past) (record { kind = kind; label = label })));
+        sym (map_by_number_push _ (names_made past) (record { kind = kind; label = label })));
     late = λ m h. late m (omega (arith, h, length-append (names_made past) (record { kind = kind; label = label } ∷ [])));
   }
 
@@ -75,12 +74,12 @@ module _ (past : List Event) (late : (n : ℕ) → length (names_made past) ≤ 
       let fs = axioms_filed past in
       let last : g (length fs) ≡ true = ap (λ s. s || is_still_in_force past (length fs)) (eq-eqb k (length fs) (e ∙ axioms_count)) in
       let same : forced (is_still_in_force past) fs ≡ forced g fs =
-      numbered_same _ _ fs (λ j x i. ap (λ s. record { states = x; in_force = s || is_still_in_force past j }) (sym (ne_eqb k j (λ q. omega (arith, q, e, axioms_count, i))))) in
+      map_by_number_same _ _ fs (λ j x i. ap (λ s. record { states = x; in_force = s || is_still_in_force past j }) (sym (ne_eqb k j (λ q. omega (arith, q, e, axioms_count, i))))) in
       record {
         agrees =
             ap (λ l. with_book past (record { names = (book_after past).names; axioms = l })) (
             ap₂ (λ l s. l ++ record { states = r; in_force = s } ∷ []) same (sym last) ∙
-            sym (numbered_push _ fs r));
+            sym (map_by_number_push _ fs r));
         late = late;
       }
 
@@ -116,11 +115,11 @@ module _ (past : List Event) (late : (n : ℕ) → length (names_made past) ≤ 
   names_there : (code : ℕ) (label : List ℕ) → Tells (after_naming past code label) (with_book past (naming_call (book_after past) code label).state)
   names_there code label = go (naming_way (book_after past) code label)
     where
-      Says : Option Kind → Turn Contents (Result NameId BookFault) → Type 0
+      Says : Option Kind → Turn Contents (Result NameId NameFault) → Type 0
       Says o turn = Tells (if_accepted past turn.answer (λ id. if_known past o (λ kind. named id.0 kind label ∷ past))) (with_book past turn.state)
 
       go : Naming (book_after past) code label → Says (kind_of code) (naming_call (book_after past) code label)
-      go (made kind is done) = subst₂ Says (sym is) (sym done) (told_named _ kind label)
+      go (made kind can done) = subst₂ Says (sym can.kind_is) (sym done) (told_named _ kind label)
       go (not_made f done) = subst (Says (kind_of code)) (sym done) told_nothing
 
   files_there : (code : ℕ) (body : List ℕ) → Tells (after_filing past code body) (with_book past (filing_call (book_after past) code body).state)
@@ -130,26 +129,26 @@ module _ (past : List Event) (late : (n : ℕ) → length (names_made past) ≤ 
       Says o turn = Tells (if_accepted past turn.answer (λ id. if_known past o (λ kind. if_read past (read_axiom body (book_after past).names kind) (λ r. filed id.0 r ∷ past)))) (with_book past turn.state)
 
       go : Filing (book_after past) code body → Says (axiom_kind_of code) (filing_call (book_after past) code body)
-      go (made kind r end is read done) =
+      go (made kind r is short can done) =
           subst₂ Says (sym is) (sym done)
-          (subst (λ out. Tells (if_read past out (λ r. filed (length (book_after past).axioms) r ∷ past)) (with_book past (with_axiom (book_after past) r))) (sym read) (told_filed _ r refl))
+          (subst (λ out. Tells (if_read past out (λ r. filed (length (book_after past).axioms) r ∷ past)) (with_book past (with_axiom (book_after past) r))) (sym can.read) (told_filed _ r refl))
       go (not_made f done) = subst (Says (axiom_kind_of code)) (sym done) told_nothing
 
   -- seeding and unseeding, laying aside and restoring: the event e, told where the call is accepted
-  seeds_there : (e : Event) (n : ℕ) (on : Bool) → (n < length (book_after past).names → Tells (e ∷ past) (with_book past (record { names = reseed (book_after past).names n on; axioms = (book_after past).axioms }))) → Tells (if_accepted past (seeding_call (book_after past) n on).answer (λ x. e ∷ past)) (with_book past (seeding_call (book_after past) n on).state)
+  seeds_there : (e : Event) (n : ℕ) (on : Bool) → (n < length (book_after past).names → Tells (e ∷ past) (with_book past (record { names = reseed (book_after past).names n on; axioms = (book_after past).axioms }))) → Tells (after_seeding past n on e) (with_book past (seeding_call (book_after past) n on).state)
   seeds_there e n on told = go (seeding_way (book_after past) n on)
     where
-      Says : Turn Contents (Result (Unit {0}) BookFault) → Type 0
+      Says : Turn Contents (Result (Unit {0}) NoSuchName) → Type 0
       Says turn = Tells (if_accepted past turn.answer (λ x. e ∷ past)) (with_book past turn.state)
 
       go : Seeding (book_after past) n on → Says (seeding_call (book_after past) n on)
       go (made h done) = subst Says (sym done) (told h)
       go (not_made f done) = subst Says (sym done) told_nothing
 
-  forces_there : (e : Event) (k : ℕ) (on : Bool) → Tells (e ∷ past) (with_book past (record { names = (book_after past).names; axioms = reforce (book_after past).axioms k on })) → Tells (if_accepted past (forcing_call (book_after past) k on).answer (λ x. e ∷ past)) (with_book past (forcing_call (book_after past) k on).state)
+  forces_there : (e : Event) (k : ℕ) (on : Bool) → Tells (e ∷ past) (with_book past (record { names = (book_after past).names; axioms = reforce (book_after past).axioms k on })) → Tells (after_forcing past k on e) (with_book past (forcing_call (book_after past) k on).state)
   forces_there e k on told = go (forcing_way (book_after past) k on)
     where
-      Says : Turn Contents (Result (Unit {0}) BookFault) → Type 0
+      Says : Turn Contents (Result (Unit {0}) NoSuchAxiom) → Type 0
       Says turn = Tells (if_accepted past turn.answer (λ x. e ∷ past)) (with_book past turn.state)
 
       go : Forcing (book_after past) k on → Says (forcing_call (book_after past) k on)
@@ -160,23 +159,23 @@ module _ (past : List Event) (late : (n : ℕ) → length (names_made past) ≤ 
 
 module _ {past : List Event} {s : Standing} (t : Tells past s) where
   -- what is told of the standing that follows from the events is told of the one that agrees with it
-  elsewhere : (later : List Event) (next : Contents → Contents) → Tells later (with_book past (next (book_after past))) → Tells later (record { frozen = s.frozen; book = next s.book })
-  elsewhere later next told = subst (λ (x : Standing). Tells later (record { frozen = x.frozen; book = next x.book })) (sym t.agrees) told
+  elsewhere : (later : List Event) (next : Contents → Contents) → Tells later (with_book past (next (book_after past))) → Tells later (record { status = s.status; book = next s.book })
+  elsewhere later next told = subst (λ (x : Standing). Tells later (record { status = x.status; book = next x.book })) (sym t.agrees) told
 
-  pub naming_told : (code : ℕ) (label : List ℕ) → Tells (after_naming past code label) (record { frozen = s.frozen; book = (naming_call s.book code label).state })
+  pub naming_told : (code : ℕ) (label : List ℕ) → Tells (after_naming past code label) (record { status = s.status; book = (naming_call s.book code label).state })
   naming_told code label = elsewhere _ (λ b. (naming_call b code label).state) (names_there past t.late code label)
 
-  pub filing_told : (code : ℕ) (body : List ℕ) → Tells (after_filing past code body) (record { frozen = s.frozen; book = (filing_call s.book code body).state })
+  pub filing_told : (code : ℕ) (body : List ℕ) → Tells (after_filing past code body) (record { status = s.status; book = (filing_call s.book code body).state })
   filing_told code body = elsewhere _ (λ b. (filing_call b code body).state) (files_there past t.late code body)
 
-  pub seeding_told : (n : ℕ) → Tells (after_seeding past n) (record { frozen = s.frozen; book = (seeding_call s.book n true).state })
+  pub seeding_told : (n : ℕ) → Tells (after_seeding past n true (seeded n)) (record { status = s.status; book = (seeding_call s.book n true).state })
   seeding_told n = elsewhere _ (λ b. (seeding_call b n true).state) (seeds_there past t.late (seeded n) n true (told_seeded past t.late n))
 
-  pub unseeding_told : (n : ℕ) → Tells (if_accepted past (seeding_call (book_after past) n false).answer (λ x. unseeded n ∷ past)) (record { frozen = s.frozen; book = (seeding_call s.book n false).state })
+  pub unseeding_told : (n : ℕ) → Tells (after_seeding past n false (unseeded n)) (record { status = s.status; book = (seeding_call s.book n false).state })
   unseeding_told n = elsewhere _ (λ b. (seeding_call b n false).state) (seeds_there past t.late (unseeded n) n false (told_unseeded past t.late n))
 
-  pub restoring_told : (k : ℕ) → Tells (if_accepted past (forcing_call (book_after past) k true).answer (λ x. restored k ∷ past)) (record { frozen = s.frozen; book = (forcing_call s.book k true).state })
+  pub restoring_told : (k : ℕ) → Tells (after_forcing past k true (restored k)) (record { status = s.status; book = (forcing_call s.book k true).state })
   restoring_told k = elsewhere _ (λ b. (forcing_call b k true).state) (forces_there past t.late (restored k) k true (told_restored past t.late k))
 
-  pub laying_told : (k : ℕ) → Tells (if_accepted past (forcing_call (book_after past) k false).answer (λ x. laid_aside k ∷ past)) (record { frozen = s.frozen; book = (forcing_call s.book k false).state })
+  pub laying_told : (k : ℕ) → Tells (after_forcing past k false (laid_aside k)) (record { status = s.status; book = (forcing_call s.book k false).state })
   laying_told k = elsewhere _ (λ b. (forcing_call b k false).state) (forces_there past t.late (laid_aside k) k false (told_aside past t.late k))

@@ -1,64 +1,46 @@
 -- What calls lead to is what follows from their history.
-use Rattle.std.proofs.Common.{◌≡◌, Bool, true, false, cond, List, [], ◌∷◌, ap, subst}
+use Rattle.std.proofs.Common.{◌≡◌, true, List, [], ◌∷◌, ap, subst}
+use Rattle.std.specs.List.{list_all}
+use Rattle.std.proofs.lemmas.Bool.{and_parts}
 use Rattle.book.specs.Contents.{Contents}
-use Rattle.runs.specs.Steps.{Step, name, file, load, lay_aside, restore, seed, unseed, freeze, reopen, Standing, start, on_draft, on_frozen, perform_from, performing, performed, drawn}
-use Rattle.runs.specs.History.{Event, frozen, reopened, is_frozen, if_draft, told, recounted}
-use Rattle.runs.specs.Promise.{follows}
+use Rattle.runs.specs.Steps.{Change, Step, Status, name, file, load, lay_aside, restore, seed, unseed, change, freeze, reopen, draft, frozen, Standing, start, edit_turn, turn_from, call_turn, state_from, state_after}
+use Rattle.runs.specs.History.{Event, standing_after, after_edit, events_from, events_after, history_from, history}
+use Rattle.runs.specs.Promise.{is_of_bytes, AreOfBytes}
 use Rattle.runs.proofs.Telling.{Tells, nothing_told, naming_told, filing_told, seeding_told, unseeding_told, restoring_told, laying_told}
 use Rattle.runs.proofs.Taken.{loading_told}
 
--- the events say whether the book is frozen
-decided : {past : List Event} {f : Bool} {b : Contents} {s : Standing} → Tells past (record { frozen = f; book = b }) → (ifFrozen ifDraft : List Event) → Tells (cond f ifFrozen ifDraft) s → Tells (cond (is_frozen past) ifFrozen ifDraft) s
-decided {s = s} t ifFrozen ifDraft told = subst (λ f. Tells (cond f ifFrozen ifDraft) s) (ap (λ (x : Standing). x.frozen) t.agrees) told
+module _ {past : List Event} {b : Contents} where
+  -- each edit of a draft
+  edit_told : Tells past (record { status = draft; book = b }) → (c : Change) → is_of_bytes (change c) ≡ true → Tells (after_edit past c) (record { status = draft; book = (edit_turn b c).state })
+  edit_told t (name kind label) bytes = naming_told t kind label
+  edit_told t (file kind body) bytes = filing_told t kind body
+  edit_told t (load whole) bytes = loading_told t whole bytes
+  edit_told t (lay_aside k) bytes = laying_told t k
+  edit_told t (restore k) bytes = restoring_told t k
+  edit_told t (seed n) bytes = seeding_told t n
+  edit_told t (unseed n) bytes = unseeding_told t n
 
--- each call on a draft
-module _ {past : List Event} {b : Contents} (t : Tells past (record { frozen = false; book = b })) where
-  counts : {later : List Event} {s : Standing} → Tells later s → Tells (if_draft past later) s
-  counts {later} told = decided t past later told
+  -- each call on a draft, and on a frozen book
+  call_told : (status : Status) → Tells past (record { status = status; book = b }) → (c : Step) → is_of_bytes c ≡ true → Tells (events_from status past c) (turn_from status b c).state
+  call_told draft t (change c) bytes = edit_told t c bytes
+  call_told draft t freeze bytes = record { agrees = ap (λ (x : Standing). record { status = frozen; book = x.book }) t.agrees; late = t.late }
+  call_told draft t reopen bytes = t
+  call_told frozen t (change c) bytes = t
+  call_told frozen t freeze bytes = t
+  call_told frozen t reopen bytes = record { agrees = ap (λ (x : Standing). record { status = draft; book = x.book }) t.agrees; late = t.late }
 
-  now_frozen : Tells (frozen ∷ past) (record { frozen = true; book = b })
-  now_frozen = record { agrees = ap (λ (x : Standing). record { frozen = true; book = x.book }) t.agrees; late = t.late }
-
-  draft_told : (c : Step) → Tells (told past c) (on_draft b c).after
-  draft_told (name kind label) = counts (naming_told t kind label)
-  draft_told (file kind body) = counts (filing_told t kind body)
-  draft_told (load bytes) = counts (loading_told t bytes)
-  draft_told (lay_aside k) = counts (laying_told t k)
-  draft_told (restore k) = counts (restoring_told t k)
-  draft_told (seed n) = counts (seeding_told t n)
-  draft_told (unseed n) = counts (unseeding_told t n)
-  draft_told freeze = counts now_frozen
-  draft_told reopen = decided t (reopened ∷ past) past t
-
--- each call on a frozen book
-module _ {past : List Event} {b : Contents} (t : Tells past (record { frozen = true; book = b })) where
-  passes : (later : List Event) → Tells (if_draft past later) (record { frozen = true; book = b })
-  passes later = decided t past later t
-
-  now_draft : Tells (reopened ∷ past) (record { frozen = false; book = b })
-  now_draft = record { agrees = ap (λ (x : Standing). record { frozen = false; book = x.book }) t.agrees; late = t.late }
-
-  frozen_told : (c : Step) → Tells (told past c) (on_frozen b c).after
-  frozen_told (name kind label) = passes _
-  frozen_told (file kind body) = passes _
-  frozen_told (load bytes) = passes _
-  frozen_told (lay_aside k) = passes _
-  frozen_told (restore k) = passes _
-  frozen_told (seed n) = passes _
-  frozen_told (unseed n) = passes _
-  frozen_told freeze = passes _
-  frozen_told reopen = decided t (reopened ∷ past) past now_draft
-
--- on either
-step_told : {past : List Event} (f : Bool) {b : Contents} → Tells past (record { frozen = f; book = b }) → (c : Step) → Tells (told past c) (perform_from f b c).after
-step_told false t c = draft_told t c
-step_told true t c = frozen_told t c
+-- the events say what the status is
+step_told : {past : List Event} {s : Standing} → Tells past s → (c : Step) → is_of_bytes c ≡ true → Tells (events_after past c) (call_turn s c).state
+step_told {past} {s} t c bytes =
+    subst (λ (x : Standing). Tells (events_from x.status past c) (call_turn s c).state) t.agrees (call_told s.status t c bytes)
 
 -- a list of calls, from any standing that its past tells
-pub calls_told : (cs : List Step) (s : Standing) (past : List Event) → Tells past s → Tells (recounted cs past) (performed s cs)
-calls_told [] s past t = t
-calls_told (c ∷ cs) s past t = calls_told cs (performing s c).after _ (step_told s.frozen t c)
+pub calls_told : (cs : List Step) → AreOfBytes cs → (s : Standing) (past : List Event) → Tells past s → Tells (history_from past cs) (state_from s cs)
+calls_told [] bytes s past t = t
+calls_told (c ∷ cs) bytes s past t =
+    let each = and_parts (is_of_bytes c) (list_all is_of_bytes cs) bytes in
+    calls_told cs each.1 (call_turn s c).state _ (step_told t c each.0)
 
 -- from an empty draft
-pub book_told : (cs : List Step) → drawn cs ≡ follows cs
-book_told cs = (calls_told cs start [] nothing_told).agrees
+pub book_told : (cs : List Step) → AreOfBytes cs → state_after cs ≡ standing_after (history cs)
+book_told cs bytes = (calls_told cs bytes start [] nothing_told).agrees

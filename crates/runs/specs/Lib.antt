@@ -1,8 +1,6 @@
 pub mod Steps
 pub mod History
-pub mod Performs
-pub mod Promise
-pub mod Cutting
-pub mod Stacks
 pub mod Answers
-pub mod Delivery
+pub mod Fitting
+pub mod Promise
+pub mod Resting

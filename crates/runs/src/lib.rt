@@ -1,14 +1,10 @@
-// Lists of calls on a book.
+//! Lists of calls on a book: what they do, what follows from them alone, and marking and writing then.
 #![tactic(auto)]
 
 mod call;
-mod cut;
 mod outcome;
-mod pile;
 mod state;
 
-pub use call::Call;
-pub use cut::Cut;
-pub use outcome::{Answer, CallFault, Outcome};
-pub use pile::Pile;
-pub use state::State;
+pub use call::{Call, Edit};
+pub use outcome::{Answer, CallFault, Done, Outcome};
+pub use state::{State, freeze_after};

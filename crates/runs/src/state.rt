@@ -1,12 +1,17 @@
 use book::{Draft, Frozen};
 
+mod freezing;
 mod marking;
 mod performing;
 mod writing;
 
-// A book that calls are performed on.
+pub use freezing::freeze_after;
+
+/// A book that calls are performed on, as a draft or frozen.
 #[derive(Drop)]
 pub enum State {
+    /// A draft.
     Draft(Draft),
+    /// A frozen book.
     Frozen(Frozen),
 }

@@ -3,7 +3,9 @@ ghost use Rattle.std.specs.Prelude.{◌≡◌, ◌≤◌, ◌++◌, length};
 ghost use Rattle.vocabulary.specs.Entities.{entity};
 ghost use Rattle.terms.specs.Forms.{rule};
 ghost use Rattle.terms.specs.Tables.{nodes_of};
-ghost use Rattle.terms.specs.Writing.{two_bytes, body_bytes};
+ghost use Rattle.terms.specs.Writing.{body_bytes};
+ghost use Rattle.terms.specs.Numbers.{two_bytes};
+ghost use Rattle.codec.specs.Bodies.{longest_body};
 ghost use Rattle.records.specs.Kinds.{record_number};
 ghost use Rattle.part.specs.Parts.{name_as_record, seed_as_record, axiom_as_record};
 
@@ -40,7 +42,7 @@ pub(crate) fn put_seed<S: Sink>(sink: &mut S, id: NameId)
 
 // How many bytes the body of an axiom has.
 fn body_len(terms: &Terms, axiom: Axiom) -> usize
-    requires { length (body_bytes (rule (nodes_of terms.now) «axiom»)) ≤ 512 }
+    requires { length (body_bytes (rule (nodes_of terms.now) «axiom»)) ≤ longest_body }
     ensures { result ≡ length (body_bytes (rule (nodes_of terms.now) «axiom»)) }
 {
     let mut length = Length::default();
@@ -50,7 +52,7 @@ fn body_len(terms: &Terms, axiom: Axiom) -> usize
 
 // The record of an axiom.
 pub(crate) fn put_rule<S: Sink>(sink: &mut S, terms: &Terms, axiom: Axiom)
-    requires { length (body_bytes (rule (nodes_of terms.now) «axiom»)) ≤ 512 }
+    requires { length (body_bytes (rule (nodes_of terms.now) «axiom»)) ≤ longest_body }
     ensures { S.takes sink.old (axiom_as_record (rule (nodes_of terms.now) «axiom»)) sink.new }
 {
     let len = body_len(terms, axiom);

@@ -2,7 +2,8 @@
 ghost use Rattle.std.specs.Prelude.{◌≡◌, map, length};
 ghost use Rattle.vocabulary.specs.Naming.{entities};
 ghost use Rattle.writer.specs.Placing.{overlay};
-ghost use Rattle.part.specs.Parts.{file_bytes, name_entry, seed_entry, seeds_from};
+ghost use Rattle.records.specs.Files.{file_bytes};
+ghost use Rattle.part.specs.Parts.{name_entry, seed_entry, seeds_from};
 
 use crate::writing::entries::{put_name, put_rule, put_seed};
 use book::Book;
@@ -21,7 +22,8 @@ fn put_names<S: Sink>(sink: &mut S, names: &Vocabulary)
 
 // The seeded names, by their numbers.
 fn put_seeds<S: Sink>(sink: &mut S, names: &Vocabulary)
-    ensures { S.takes sink.old (file_bytes (map seed_entry (seeds_from 0 (entities names.now)))) sink.new }
+    ensures { let seeds = map seed_entry (seeds_from 0 (entities names.now)) in
+        S.takes sink.old (file_bytes seeds) sink.new }
 {
     for (number, name) in names.as_slice().iter().enumerate() {
         let id = NameId(number as u16);
@@ -41,8 +43,7 @@ pub(crate) struct Part<'a> {
 impl Part<'_> {
     ghost use Rattle.part.specs.Writing.{axioms_written, part_written};
 
-    // Puts the axioms whose flag is set. An extractor goes through its axioms in the same way: an iterator for both would be
-    // longer than the two loops, and a closure that changes the sink would leave it open what the sink ends as.
+    // Puts the axioms whose flag is set.
     fn put_axioms<S: Sink>(&self, sink: &mut S)
         ensures { S.takes sink.old (axioms_written self.now) sink.new }
     {

@@ -1,86 +1,67 @@
-ghost use Rattle.std.specs.Prelude.{◌≡◌, map, Err, IfOk};
+ghost use Rattle.std.specs.Prelude.{◌≡◌, ◌≢◌, map, Err, IfOk};
+ghost use Rattle.refusals.specs.Choice.{Judged};
+ghost use Rattle.refusals.specs.Turns.{Gives};
 ghost use Rattle.book.specs.Calls.{contents};
-ghost use Rattle.runs.specs.Steps.{step_of, standing, start, on_draft, on_frozen, performing, performed};
-ghost use Rattle.runs.specs.Performs.{Amends, Performs};
+ghost use Rattle.runs.specs.Fitting.{CallIsJudged, EditFits, refusal_in};
+ghost use Rattle.runs.specs.Steps.{change_of, step_of, standing, start, edit_turn, call_turn, state_from};
 ghost use Rattle.runs.specs.declared.outcome.CallFault.TheVariants.{NotAllowed};
-ghost use Rattle.runs.specs.declared.state.State.TheVariants.{Draft as OfDraft, Frozen as OfFrozen};
 
-use crate::call::Call;
-use crate::outcome::{CallFault, Outcome};
+use crate::call::{Call, Edit};
+use crate::outcome::{CallFault, Done, Outcome};
 use crate::state::State;
-use book::{Book, Draft, Frozen};
+use book::{Book, Draft};
 use records::load;
 use std::alloc::{AllocError, Global};
 
-// Makes a call on a draft. Freezing takes the draft, which is lent here, and so is left to the caller.
-fn amend(draft: &mut Draft, call: &Call) -> Outcome
-    ensures amends { Amends (contents draft.new) result (on_draft (contents draft.old) (step_of call.now)) }
-    ensures kept { result ≡ Err NotAllowed → draft.new ≡ draft.old }
+// Makes an edit on a draft.
+pub(crate) fn make(draft: &mut Draft, edit: &Edit) -> Outcome
+    ensures gives { let turn = edit_turn (contents draft.old) (change_of edit.now) in
+        Gives (contents draft.new) result turn }
+    ensures law { let fits = EditFits (contents draft.old) (change_of edit.now) in
+        Judged fits (refusal_in result) }
+    ensures allowed { result ≢ Err NotAllowed }
 {
-    match call {
-        Call::Name { kind, label } => {
+    match edit {
+        Edit::Name { kind, label } => {
             let id = draft.name(*kind, label.as_slice())?;
-            Ok(Some(usize::from(id.0)))
+            Ok(Done::Named(id))
         }
-        Call::File { kind, body } => {
+        Edit::File { kind, body } => {
             let id = draft.file(*kind, body.as_slice())?;
-            Ok(Some(usize::from(id.0)))
+            Ok(Done::Filed(id))
         }
-        Call::Load { file } => {
+        Edit::Load { file } => {
             let taken = load(draft, file.as_slice())?;
-            Ok(Some(taken))
+            Ok(Done::Loaded(taken))
         }
-        Call::LayAside(id) => {
+        Edit::LayAside(id) => {
             draft.lay_aside(*id)?;
-            Ok(None)
+            Ok(Done::Accepted)
         }
-        Call::Restore(id) => {
+        Edit::Restore(id) => {
             draft.restore(*id)?;
-            Ok(None)
+            Ok(Done::Accepted)
         }
-        Call::Seed(id) => {
+        Edit::Seed(id) => {
             draft.seed(*id)?;
-            Ok(None)
+            Ok(Done::Accepted)
         }
-        Call::Unseed(id) => {
+        Edit::Unseed(id) => {
             draft.unseed(*id)?;
-            Ok(None)
+            Ok(Done::Accepted)
         }
-        Call::Freeze => Ok(None),
-        Call::Reopen => Err(CallFault::NotAllowed),
-    }
-}
-
-fn on_draft(draft: Draft, call: &Call) -> (State, Outcome)
-    ensures performs { Performs result.0 result.1 (on_draft (contents draft) (step_of call.now)) }
-    ensures kept { result.1 ≡ Err NotAllowed → result.0 ≡ OfDraft draft }
-{
-    let mut draft = draft;
-    let outcome = amend(&mut draft, call);
-    match call {
-        Call::Freeze => (State::Frozen(draft.freeze()), outcome),
-        _ => (State::Draft(draft), outcome),
-    }
-}
-
-fn on_frozen(frozen: Frozen, call: &Call) -> (State, Outcome)
-    ensures performs { Performs result.0 result.1 (on_frozen (contents frozen) (step_of call.now)) }
-    ensures kept { result.1 ≡ Err NotAllowed → result.0 ≡ OfFrozen frozen }
-{
-    match call {
-        Call::Reopen => (State::Draft(frozen.reopen()), Ok(None)),
-        _ => (State::Frozen(frozen), Err(CallFault::NotAllowed)),
     }
 }
 
 impl State {
-    // An empty draft.
+    /// An empty draft. All memory that the book will ever need is claimed here; it fails where there is not enough.
     pub fn open(heap: Global) -> Result<State, AllocError>
         ensures { IfOk result (λ s. standing s ≡ start) }
     {
         Ok(State::Draft(Draft::open(heap)?))
     }
 
+    /// The book as it stands.
     pub fn book(&self) -> &Book
         ensures { contents result.now ≡ (standing self.now).book }
     {
@@ -90,21 +71,34 @@ impl State {
         }
     }
 
-    // Performs a call, and answers the book after it and the outcome.
+    /// Performs a call, and answers the book after it and the outcome (specs/Steps.antt). A refused call changes nothing, but
+    /// for the records that a loading took (specs/Fitting.antt); a book of a status that does not have the call is the same as
+    /// before.
     pub fn perform(self, call: &Call) -> (State, Outcome)
-        ensures performs { Performs result.0 result.1 (performing (standing self) (step_of call.now)) }
-        // a book that does not have the call is the same as before
+        ensures gives { let turn = call_turn (standing self) (step_of call.now) in
+            Gives (standing result.0) result.1 turn }
+        ensures law { CallIsJudged (standing self) (step_of call.now) result.1 }
         ensures kept { result.1 ≡ Err NotAllowed → result.0 ≡ self }
     {
-        match self {
-            State::Draft(draft) => on_draft(draft, call),
-            State::Frozen(frozen) => on_frozen(frozen, call),
+        match (self, call) {
+            (State::Draft(draft), Call::Edit(edit)) => {
+                let mut draft = draft;
+                let outcome = make(&mut draft, edit);
+                (State::Draft(draft), outcome)
+            }
+            (State::Draft(draft), Call::Freeze) => {
+                (State::Frozen(draft.freeze()), Ok(Done::Accepted))
+            }
+            (State::Frozen(frozen), Call::Reopen) => {
+                (State::Draft(frozen.reopen()), Ok(Done::Accepted))
+            }
+            (state, _) => (state, Err(CallFault::NotAllowed)),
         }
     }
 
-    // Performs the calls of a list in their order.
+    /// Performs the calls of a list in their order, whatever each answers.
     pub fn perform_all(self, calls: &[Call]) -> State
-        ensures { standing result ≡ performed (standing self) (map step_of calls.now) }
+        ensures { standing result ≡ state_from (standing self) (map step_of calls.now) }
     {
         calls.iter().fold(self, |state, call| state.perform(call).0)
     }

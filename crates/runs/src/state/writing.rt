@@ -1,13 +1,18 @@
-ghost use Rattle.runs.specs.Delivery.{Delivers, DeliversPromised, delivery};
-ghost use Rattle.runs.specs.Steps.{standing};
+ghost use Rattle.std.specs.Prelude.{List};
+ghost use Rattle.refusals.specs.Turns.{Gives};
+ghost use Rattle.part.specs.Writing.{lent_for_part};
+ghost use Rattle.runs.specs.Promise.{AreOfBytes, BookPromise, Promise};
+ghost use Rattle.runs.specs.Resting.{writing_if_frozen};
+ghost use Rattle.runs.specs.Steps.{Step, standing};
 
 use crate::state::State;
 use extraction::{Extractor, MarkFault};
 use part::write;
 
 impl State {
-    // Writes the part of the book through a pile; that of a draft cannot be written. The promise holds whichever calls the
-    // book came by.
+    /// Writes the part of a frozen book through an extractor, as [`write`] does; the answer is `None` where the book is a
+    /// draft, whose part cannot be written (specs/Resting.antt). The promise is of every list of calls, and of the book at
+    /// hand (specs/Promise.antt).
     pub fn write<E: Extractor>(
         &self,
         pile: &E,
@@ -15,8 +20,15 @@ impl State {
         names: &mut [u8],
         part: &mut [u8],
     ) -> Option<Result<usize, MarkFault>>
-        ensures gives { Delivers axioms.new names.new part.new result (delivery (E.Extractor.kept pile.now) (standing self.now) (record { axioms = axioms.old; names = names.old; part = part.old })) }
-        ensures promise { DeliversPromised (standing self.now) (E.Extractor.kept pile.now) (E.Extractor.repair pile.now) (E.Extractor.rounds pile.now) (E.Extractor.stages pile.now) (record { axioms = axioms.old; names = names.old; part = part.old }) axioms.new names.new part.new result }
+        ensures gives { let before = lent_for_part axioms.old names.old part.old in
+            let after = lent_for_part axioms.new names.new part.new in
+            let s = standing self.now in
+            let turn = writing_if_frozen (E.Extractor.extraction pile.now) s before in
+            Gives after result turn }
+        ensures promise { (cs : List Step) → AreOfBytes cs →
+            Promise cs (E.Extractor.extraction pile.now) }
+        ensures book { let b = (standing self.now).book in
+            BookPromise b (E.Extractor.extraction pile.now b) }
     {
         match self {
             State::Draft(_) => None,

@@ -1,7 +1,7 @@
 use Rattle.std.proofs.Common.{arith}
 use Rattle.book.specs.Calls.{contents}
-use Rattle.extraction.specs.Listing.{set_of}
-use Rattle.part.proofs.Books.{book_proper}
+use Rattle.locality.specs.Flags.{set_of}
+use Rattle.book.proofs.Proper.{book_proper}
 use Rattle.part.proofs.Sections.{part_few}
 use Rattle.part.proofs.writing.sections.Part.len.Goals as goal
 

@@ -1,7 +1,7 @@
 use Rattle.std.proofs.Common.{length, sym, ◌∙◌, rules}
 use Rattle.std.proofs.lemmas.List.{length_push}
 use Rattle.terms.specs.Tables.{nodes_of}
-use Rattle.extraction.specs.Listing.{set_of}
+use Rattle.locality.specs.Flags.{set_of}
 use Rattle.extraction.proofs.Visiting.{Visited, visit_turn}
 use Rattle.part.proofs.Sections.{axiom_on, axiom_off, body_short}
 use Rattle.part.proofs.writing.sections.Part.put_axioms.Given as given

@@ -1,6 +1,6 @@
 use Rattle.std.proofs.Common.{take, length}
 use Rattle.terms.specs.Tables.{nodes_of}
-use Rattle.extraction.specs.Listing.{set_of}
+use Rattle.locality.specs.Flags.{set_of}
 use Rattle.part.proofs.Sections.{axioms_bytes}
 use Rattle.part.proofs.writing.sections.Part.put_axioms.Given as goal
 
