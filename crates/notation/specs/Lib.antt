@@ -4,3 +4,4 @@ pub mod Lists
 pub mod Totals
 pub mod Marks
 pub mod Reports
+pub mod Verdicts

@@ -1,11 +1,11 @@
 -- The lists of a book's names and axioms, a line for each.
-use Rattle.std.specs.Prelude.{ℕ, Bool, cond, List, [], ◌++◌, codes, decimal, flat_map}
+use Rattle.std.specs.Prelude.{ℕ, Bool, if◌then◌else◌, List, [], ◌++◌, codes, decimal, flat_map}
 use Rattle.std.specs.List.{enumerate_from}
 use Rattle.vocabulary.specs.Entities.{Entity}
 use Rattle.vocabulary.specs.Kinds.{kind_text}
 use Rattle.book.specs.Contents.{Contents, Filing}
-use Rattle.locality.specs.declared.filling.Filling.TheVariants.{Bottom, Top}
-use Rattle.locality.specs.Tables.{local_rule}
+use Rattle.locality.specs.declared.test.Test.TheVariants.{Bottom, Top}
+use Rattle.locality.specs.Tables.{local_by}
 use Rattle.locality.specs.Worlds.{Names}
 use Rattle.notation.specs.Notation.{axiom_text}
 
@@ -19,7 +19,7 @@ entity_text n e = decimal n ++ (codes ": " ++ (kind_text e.kind ++ (codes " " ++
 
 -- a name that is seeded says so
 abbrev pub seeded_text : Bool → List ℕ
-seeded_text seeded = cond seeded (codes " (seeded)") []
+seeded_text seeded = if seeded then (codes " (seeded)") else []
 
 -- the line of a name
 abbrev pub entity_line : ℕ → Entity → List ℕ
@@ -27,7 +27,7 @@ entity_line n e = entity_text n e ++ (seeded_text e.seeded ++ codes "\n")
 
 -- an axiom that is laid aside says so
 abbrev pub force_text : Bool → List ℕ
-force_text in_force = cond in_force [] (codes " (laid aside)")
+force_text in_force = if in_force then [] else (codes " (laid aside)")
 
 -- the line of an axiom
 abbrev pub filing_line : List Entity → ℕ → Filing → List ℕ
@@ -41,9 +41,9 @@ listing_text b =
 
 -- a verdict in words
 abbrev pub verdict_text : Bool → List ℕ
-verdict_text local = cond local (codes "local") (codes "not local")
+verdict_text local = if local then (codes "local") else (codes "not local")
 
 -- the line of an axiom with the verdicts of both tests, against a list of names
 abbrev pub verdict_line : Names → ℕ → Filing → List ℕ
 verdict_line listed n f =
-    decimal n ++ (codes ": bottom " ++ (verdict_text (local_rule Bottom listed f.states) ++ (codes ", top " ++ (verdict_text (local_rule Top listed f.states) ++ codes "\n"))))
+    decimal n ++ (codes ": bottom " ++ (verdict_text (local_by Bottom f.states listed) ++ (codes ", top " ++ (verdict_text (local_by Top f.states listed) ++ codes "\n"))))

@@ -1,6 +1,6 @@
 -- The notation of description logics: names, roles, terms and axioms as texts. Each takes the names by their numbers.
 use Prim.Native.String.{String}
-use Rattle.std.specs.Prelude.{ℕ, Bool, true, false, cond, List, ◌++◌, codes, decimal, encode_utf8_all}
+use Rattle.std.specs.Prelude.{ℕ, Bool, true, false, if◌then◌else◌, List, ◌++◌, codes, decimal, encode_utf8_all}
 use Rattle.std.specs.Option.{option_map_or}
 use Rattle.vocabulary.specs.declared.name.NameId.{NameId}
 use Rattle.vocabulary.specs.Entities.{Entity, entity_at}
@@ -47,7 +47,7 @@ ends_open (at_least n r f) = true
 module _ (names : List Entity) where
   -- a term that an argument follows
   abbrev pub predicate_text : Form → List ℕ
-  predicate_text f = cond (ends_open f) (codes "(" ++ (term_text names f ++ codes ")")) (term_text names f)
+  predicate_text f = if ends_open f then (codes "(" ++ (term_text names f ++ codes ")")) else (term_text names f)
 
   -- an axiom: an inclusion, an equivalence, what a role is, or an assertion about individuals
   abbrev pub axiom_text : Rule → List ℕ

@@ -1,4 +1,4 @@
-// Books, refusals and markings, as text for a reader.
+//! Books, refusals and markings, as text for a reader.
 #![tactic(auto)]
 
 mod lines;

@@ -25,7 +25,8 @@ pub(crate) fn write_lines<T, L: Lines<T>, W: fmt::Write>(
     lines: &L,
     items: &[T],
 ) -> fmt::Result
-    ensures { WritesOnOk W.write_str_gives f.old result (numbered (L.Lines.line lines.now) items.now) f.new }
+    ensures { let text = numbered (L.Lines.line lines.now) items.now in
+        WritesOnOk W.write_str_gives f.old result text f.new }
 {
     for (number, item) in items.iter().enumerate() {
         lines.write_line(f, number, item)?;

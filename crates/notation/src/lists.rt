@@ -3,9 +3,17 @@ ghost use Rattle.std.specs.Prelude.{◌≡◌, Some};
 ghost use Rattle.vocabulary.specs.Entities.{entity};
 ghost use Rattle.vocabulary.specs.Naming.{entities};
 ghost use Rattle.terms.specs.Tables.{nodes_of};
-ghost use Rattle.book.specs.Calls.{contents};
+ghost use Rattle.book.specs.Calls.{contents, vocabulary_of, terms_of};
 ghost use Rattle.book.specs.Contents.{filing};
-ghost use Rattle.notation.specs.Lists.{entity_text, entity_line, filing_line, force_text, listing_text, numbered, seeded_text};
+ghost use Rattle.notation.specs.Lists.{
+  entity_text,
+  entity_line,
+  filing_line,
+  force_text,
+  listing_text,
+  numbered,
+  seeded_text,
+};
 
 use crate::lines::{Lines, write_lines};
 use crate::shown::Shown;
@@ -14,10 +22,11 @@ use std::fmt;
 use std::fmt::Formatter;
 use vocabulary::Name;
 
-// A name with its number: its kind and its label.
+/// A name with its number, shown as number, kind and label.
 #[derive(Clone, Copy)]
 pub struct Numbered<'a>(pub usize, pub &'a Name);
 
+/// The number, the kind and the label.
 impl fmt::Display for Numbered<'_> {
     ghost output = { λ n. Some (entity_text n.0 (entity n.1.now)) };
 
@@ -75,7 +84,8 @@ impl fmt::Display for NameList<'_> {
 struct AxiomList<'a>(&'a Book);
 
 impl Lines<Filed> for AxiomList<'_> {
-    ghost line = { λ l n x. filing_line (entities l.0.now.names) n (filing (nodes_of l.0.now.terms) x) };
+    ghost line = { λ l n x.
+        filing_line (entities (vocabulary_of l.0.now)) n (filing (nodes_of (terms_of l.0.now)) x) };
 
     fn write_line<W: fmt::Write>(
         &self,
@@ -90,7 +100,8 @@ impl Lines<Filed> for AxiomList<'_> {
 }
 
 impl fmt::Display for AxiomList<'_> {
-    ghost output = { λ l. Some (numbered (filing_line (contents l.0.now).names) (contents l.0.now).axioms) };
+    ghost output = { λ l.
+        let b = contents l.0.now in Some (numbered (filing_line b.names) b.axioms) };
 
     #[tactic(auto, using(crate::proofs::Numbering::listing))]
     fn fmt<W: fmt::Write>(&self, f: &mut Formatter<W>) -> fmt::Result {
@@ -98,10 +109,11 @@ impl fmt::Display for AxiomList<'_> {
     }
 }
 
-// All that a book holds.
+/// All that a book holds, as specs/Lists.antt has it: a line for each name, then a line for each axiom.
 #[derive(Clone, Copy)]
 pub struct Listing<'a>(pub &'a Book);
 
+/// The two lists.
 impl fmt::Display for Listing<'_> {
     ghost output = { λ l. Some (listing_text (contents l.0.now)) };
 

@@ -3,10 +3,10 @@ ghost use Rattle.std.specs.Prelude.{◌≡◌, Some};
 ghost use Rattle.vocabulary.specs.Entities.{entity};
 ghost use Rattle.vocabulary.specs.Naming.{entities};
 ghost use Rattle.terms.specs.Tables.{nodes_of};
-ghost use Rattle.book.specs.Calls.{contents};
+ghost use Rattle.book.specs.Calls.{contents, vocabulary_of, terms_of};
 ghost use Rattle.book.specs.Contents.{filing};
 ghost use Rattle.notation.specs.Lists.{numbered};
-ghost use Rattle.notation.specs.Marks.{marked, signature_line, drawn_line, kept_line};
+ghost use Rattle.notation.specs.Marks.{is_marked, signature_line, drawn_line, kept_line};
 
 use crate::lines::{Lines, write_lines};
 use crate::lists::Numbered;
@@ -19,7 +19,7 @@ use vocabulary::Name;
 
 // Whether the item with this number is marked. A mark is a byte, 1 or 0, as marking writes it.
 fn is_marked(marks: &[u8], number: usize) -> bool
-    ensures { result ≡ marked marks.now number }
+    ensures { result ≡ is_marked marks.now number }
 {
     marks.get(number).copied() == Some(1)
 }
@@ -89,7 +89,9 @@ impl fmt::Display for DrawnIn<'_> {
 struct Kept<'a>(&'a Book, &'a [u8]);
 
 impl Lines<Filed> for Kept<'_> {
-    ghost line = { λ k n x. kept_line k.1.now (entities k.0.now.names) n (filing (nodes_of k.0.now.terms) x) };
+    ghost line = { λ k n x.
+        let names = entities (vocabulary_of k.0.now) in
+        kept_line k.1.now names n (filing (nodes_of (terms_of k.0.now)) x) };
 
     fn write_line<W: fmt::Write>(
         &self,
@@ -106,7 +108,8 @@ impl Lines<Filed> for Kept<'_> {
 }
 
 impl fmt::Display for Kept<'_> {
-    ghost output = { λ k. Some (numbered (kept_line k.1.now (contents k.0.now).names) (contents k.0.now).axioms) };
+    ghost output = { λ k.
+        let b = contents k.0.now in Some (numbered (kept_line k.1.now b.names) b.axioms) };
 
     #[tactic(auto, using(crate::proofs::Numbering::listing))]
     fn fmt<W: fmt::Write>(&self, f: &mut Formatter<W>) -> fmt::Result {
@@ -114,17 +117,25 @@ impl fmt::Display for Kept<'_> {
     }
 }
 
-// A book that was cut: how many records its file had, the two buffers of marks, the answer, and the bytes of its part.
+/// A book that was cut: how many records its file had, the two buffers of marks as marking writes them, its answer, and how
+/// many bytes the part has.
 #[derive(Clone, Copy)]
 pub struct Report<'a> {
+    /// The book.
     pub book: &'a Book,
+    /// How many records its file had.
     pub records: usize,
+    /// The marks of the axioms, a byte for each.
     pub axioms: &'a [u8],
+    /// The marks of the names, a byte for each.
     pub names: &'a [u8],
+    /// What marking answered.
     pub marking: Marking,
+    /// How many bytes the part has.
     pub bytes: usize,
 }
 
+/// The report of a cut, as specs/Reports.antt has it.
 impl fmt::Display for Report<'_> {
     ghost use Rattle.notation.specs.Reports.{summary_of, summary_text};
 

@@ -1,10 +1,18 @@
 // Names, terms and axioms in the notation of description logics.
 ghost use Rattle.std.specs.Prelude.{◌≡◌, Some};
 ghost use Rattle.std.specs.Fmt.{WritesOnOk};
+ghost use Rattle.book.specs.Calls.{vocabulary_of, terms_of};
 ghost use Rattle.vocabulary.specs.Naming.{entities};
 ghost use Rattle.terms.specs.Forms.{form, meaning, rule};
 ghost use Rattle.terms.specs.Tables.{nodes_of};
-ghost use Rattle.notation.specs.Notation.{name_text, role_text, term_text, ends_open, predicate_text, axiom_text};
+ghost use Rattle.notation.specs.Notation.{
+  name_text,
+  role_text,
+  term_text,
+  ends_open,
+  predicate_text,
+  axiom_text,
+};
 
 use book::Book;
 use std::fmt;
@@ -12,13 +20,13 @@ use std::fmt::Formatter;
 use terms::{Axiom, MOST_LEVELS, RoleItem, Term, TermId};
 use vocabulary::NameId;
 
-// A part of a book as it is shown, which takes the book's names and terms.
+/// A part of a book (a name, a role, a term or an axiom) in the notation of description logics, as specs/Notation.antt has it.
 #[derive(Clone, Copy)]
 pub struct Shown<'a, T>(pub &'a Book, pub T);
 
-// A name, by its label.
+/// A name, by its label.
 impl fmt::Display for Shown<'_, NameId> {
-    ghost output = { λ s. Some (name_text (entities s.0.now.names) s.1) };
+    ghost output = { λ s. Some (name_text (entities (vocabulary_of s.0.now)) s.1) };
 
     fn fmt<W: fmt::Write>(&self, f: &mut Formatter<W>) -> fmt::Result {
         match self.0.names().get(self.1) {
@@ -28,9 +36,9 @@ impl fmt::Display for Shown<'_, NameId> {
     }
 }
 
-// A role, or the inverse of one.
+/// A role, or the inverse of one.
 impl fmt::Display for Shown<'_, RoleItem> {
-    ghost output = { λ s. Some (role_text (entities s.0.now.names) s.1) };
+    ghost output = { λ s. Some (role_text (entities (vocabulary_of s.0.now)) s.1) };
 
     #[tactic(auto, using(crate::proofs::Signs::signs))]
     fn fmt<W: fmt::Write>(&self, f: &mut Formatter<W>) -> fmt::Result {
@@ -56,7 +64,9 @@ fn write_term<W: fmt::Write>(
     id: TermId,
     levels: u8,
 ) -> fmt::Result
-    ensures { WritesOnOk W.write_str_gives f.old result (term_text (entities book.now.names) (form levels (nodes_of book.now.terms) id)) f.new }
+    ensures { let tree = form levels (nodes_of (terms_of book.now)) id in
+        let text = term_text (entities (vocabulary_of book.now)) tree in
+        WritesOnOk W.write_str_gives f.old result text f.new }
 {
     if levels == 0 {
         return f.write_str("⊥");
@@ -97,8 +107,11 @@ fn write_term<W: fmt::Write>(
     }
 }
 
+/// A term.
 impl fmt::Display for Shown<'_, TermId> {
-    ghost output = { λ s. Some (term_text (entities s.0.now.names) (meaning (nodes_of s.0.now.terms) s.1)) };
+    ghost output = { λ s.
+        let names = entities (vocabulary_of s.0.now) in
+        Some (term_text names (meaning (nodes_of (terms_of s.0.now)) s.1)) };
 
     #[tactic(auto, unfolding(terms::specs::Forms::meaning))]
     fn fmt<W: fmt::Write>(&self, f: &mut Formatter<W>) -> fmt::Result {
@@ -109,7 +122,7 @@ impl fmt::Display for Shown<'_, TermId> {
 // Whether a term needs parentheses where an argument follows it.
 #[tactic(auto, unfolding(terms::specs::Forms::meaning))]
 fn is_open(book: &Book, id: TermId) -> bool
-    ensures { result ≡ ends_open (meaning (nodes_of book.now.terms) id) }
+    ensures { result ≡ ends_open (meaning (nodes_of (terms_of book.now)) id) }
 {
     matches!(
         book.terms().at(id),
@@ -122,7 +135,9 @@ fn is_open(book: &Book, id: TermId) -> bool
 struct Predicate(TermId);
 
 impl fmt::Display for Shown<'_, Predicate> {
-    ghost output = { λ s. Some (predicate_text (entities s.0.now.names) (meaning (nodes_of s.0.now.terms) s.1.0)) };
+    ghost output = { λ s.
+        let names = entities (vocabulary_of s.0.now) in
+        Some (predicate_text names (meaning (nodes_of (terms_of s.0.now)) s.1.0)) };
 
     fn fmt<W: fmt::Write>(&self, f: &mut Formatter<W>) -> fmt::Result {
         let Predicate(id) = self.1;
@@ -135,8 +150,11 @@ impl fmt::Display for Shown<'_, Predicate> {
     }
 }
 
+/// An axiom.
 impl fmt::Display for Shown<'_, Axiom> {
-    ghost output = { λ s. Some (axiom_text (entities s.0.now.names) (rule (nodes_of s.0.now.terms) s.1)) };
+    ghost output = { λ s.
+        let names = entities (vocabulary_of s.0.now) in
+        Some (axiom_text names (rule (nodes_of (terms_of s.0.now)) s.1)) };
 
     #[tactic(auto, using(crate::proofs::Signs::signs))]
     fn fmt<W: fmt::Write>(&self, f: &mut Formatter<W>) -> fmt::Result {

@@ -6,6 +6,7 @@ use book::Book;
 use std::fmt;
 use vocabulary::{Kind, Name};
 
+/// How much a book holds: its names by kind, those in the signature, and its axioms.
 #[derive(Clone, Copy, Debug)]
 pub struct Tally {
     concepts: usize,
@@ -33,6 +34,7 @@ impl Tally {
     ghost use Rattle.book.specs.Calls.{contents};
     ghost use Rattle.notation.specs.Totals.{tally_of};
 
+    /// The tally of a book.
     pub fn of(book: &Book) -> Tally
         ensures { result ≡ tally_of (contents book.now) }
     {
@@ -47,6 +49,7 @@ impl Tally {
     }
 }
 
+/// A line for each number, as specs/Totals.antt has them.
 impl fmt::Display for Tally {
     ghost use Rattle.notation.specs.Totals.{tally_text};
 

@@ -2,13 +2,14 @@
 ghost use Rattle.std.specs.Prelude.{Some};
 ghost use Rattle.notation.specs.Refusals.{told_text};
 
-use std::fmt;
 use refusals::Refusal;
+use std::fmt;
 
-// A refusal as a line for a reader.
+/// A refusal as a line for a reader: number, layer by number and word, place, and the reason in words.
 #[derive(Clone, Copy, Debug)]
 pub struct Told(pub Refusal);
 
+/// The line, as specs/Refusals.antt has it.
 impl fmt::Display for Told {
     ghost output = { λ t. Some (told_text t.0) };
 

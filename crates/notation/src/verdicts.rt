@@ -2,20 +2,21 @@
 ghost use Rattle.std.specs.Prelude.{◌≡◌, Some};
 ghost use Rattle.terms.specs.Forms.{rule};
 ghost use Rattle.terms.specs.Tables.{nodes_of};
-ghost use Rattle.book.specs.Calls.{contents};
+ghost use Rattle.book.specs.Calls.{contents, terms_of};
 ghost use Rattle.book.specs.Contents.{filing};
-ghost use Rattle.locality.specs.Tables.{listed_in, local_rule};
+ghost use Rattle.locality.specs.Flags.{listed_in};
+ghost use Rattle.locality.specs.Tables.{local_by};
 ghost use Rattle.extraction.specs.Sets.{signature};
 ghost use Rattle.notation.specs.Lists.{numbered, verdict_line, verdict_text};
 
 use crate::lines::{Lines, write_lines};
 use book::{Book, Filed};
 use extraction::{Flags, seeded_names};
-use locality::{Filling, LocalityTest};
+use locality::{LocalityTest, Test};
 use std::fmt;
 use terms::Axiom;
 
-// The verdicts of both tests on each axiom of a book, against the names in its signature.
+/// The verdicts of the tests on each axiom of a book, against the names in its signature.
 #[derive(Clone, Copy)]
 pub struct Verdicts<'a> {
     book: &'a Book,
@@ -23,9 +24,12 @@ pub struct Verdicts<'a> {
 }
 
 impl<'a> Verdicts<'a> {
+    ghost use Rattle.notation.specs.Verdicts.{book_of, names_of};
+
+    /// The verdicts on a book's axioms.
     pub fn of(book: &'a Book) -> Verdicts<'a>
-        ensures book { result.book.now ≡ book.now }
-        ensures listed { listed_in result.listed ≡ signature (contents book.now) }
+        ensures book { book_of result ≡ book.now }
+        ensures listed { names_of result ≡ signature (contents book.now) }
     {
         Verdicts {
             book,
@@ -34,8 +38,9 @@ impl<'a> Verdicts<'a> {
     }
 
     // The verdict of a test on an axiom.
-    fn verdict(&self, test: Filling, axiom: Axiom) -> &'static str
-        ensures { result.now ≡ verdict_text (local_rule test (listed_in self.now.listed) (rule (nodes_of self.now.book.now.terms) «axiom»)) }
+    fn verdict(&self, test: Test, axiom: Axiom) -> &'static str
+        ensures { let tested = rule (nodes_of (terms_of self.now.book.now)) «axiom» in
+            result.now ≡ verdict_text (local_by test tested (listed_in self.now.listed)) }
     {
         if test.is_local(self.book.terms(), axiom, &self.listed) {
             "local"
@@ -46,7 +51,8 @@ impl<'a> Verdicts<'a> {
 }
 
 impl Lines<Filed> for Verdicts<'_> {
-    ghost line = { λ v n x. verdict_line (listed_in v.listed) n (filing (nodes_of v.book.now.terms) x) };
+    ghost line = { λ v n x.
+        verdict_line (listed_in v.listed) n (filing (nodes_of (terms_of v.book.now)) x) };
 
     fn write_line<W: fmt::Write>(
         &self,
@@ -54,14 +60,16 @@ impl Lines<Filed> for Verdicts<'_> {
         number: usize,
         filed: &Filed,
     ) -> fmt::Result {
-        let bottom = self.verdict(Filling::Bottom, filed.axiom);
-        let top = self.verdict(Filling::Top, filed.axiom);
+        let bottom = self.verdict(Test::Bottom, filed.axiom);
+        let top = self.verdict(Test::Top, filed.axiom);
         writeln!(f, "{number}: bottom {bottom}, top {top}")
     }
 }
 
+/// A line for each axiom, as specs/Lists.antt has it.
 impl fmt::Display for Verdicts<'_> {
-    ghost output = { λ v. Some (numbered (verdict_line (listed_in v.listed)) (contents v.book.now).axioms) };
+    ghost output = { λ v.
+        Some (numbered (verdict_line (listed_in v.listed)) (contents v.book.now).axioms) };
 
     #[tactic(auto, using(crate::proofs::Numbering::listing))]
     fn fmt<W: fmt::Write>(&self, f: &mut fmt::Formatter<W>) -> fmt::Result {

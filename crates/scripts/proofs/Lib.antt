@@ -2,3 +2,5 @@ mod Digits
 mod Pairs
 mod Performed
 mod Reading
+mod Stages
+mod OfBytes

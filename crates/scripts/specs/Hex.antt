@@ -1,5 +1,5 @@
 -- Bytes as hexadecimal digits in ASCII.
-use Rattle.std.specs.Prelude.{ℕ, ◌+◌, ◌-◌, ◌*◌, cond, List, [], ◌∷◌, codes, Some, None, Ok, Err, Option, Result, nat_le, bytes_eq, option_map}
+use Rattle.std.specs.Prelude.{ℕ, ◌+◌, ◌-◌, ◌*◌, if◌then◌else◌, List, [], ◌∷◌, codes, Some, None, Ok, Err, Option, Result, nat_le, bytes_eq, option_map}
 use Rattle.std.specs.Option.{option_and_then}
 use Rattle.hex.specs.Hex.{encode_lower}
 use Rattle.scripts.specs.declared.halt.LineFault.{LineFault}
@@ -7,7 +7,7 @@ use Rattle.scripts.specs.declared.halt.LineFault.TheVariants.{OddDigits, NotHexa
 
 -- a byte from low to high stands for its distance from low, plus what low stands for
 abbrev pub from_range : ℕ → ℕ → ℕ → ℕ → Option ℕ → Option ℕ
-from_range low high least d others = cond (nat_le low d) (cond (nat_le d high) (Some (d - low + least)) others) others
+from_range low high least d others = if nat_le low d then (if nat_le d high then (Some (d - low + least)) else others) else others
 
 -- '0' to '9', 'a' to 'f' and 'A' to 'F'
 abbrev pub digit_of : ℕ → Option ℕ
@@ -31,7 +31,7 @@ pairs_value (high ∷ low ∷ ds) = before (pair_value high low) (pairs_value ds
 
 -- the bytes of a word; a dash stands for none
 abbrev pub bytes_value : List ℕ → Result (List ℕ) LineFault
-bytes_value w = cond (bytes_eq w (codes "-")) (Ok []) (pairs_value w)
+bytes_value w = if bytes_eq w (codes "-") then (Ok []) else (pairs_value w)
 
 -- and the other way round: two small digits for each byte, or a dash
 abbrev pub bytes_word : List ℕ → List ℕ

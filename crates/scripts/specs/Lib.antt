@@ -1,3 +1,4 @@
+pub mod Piles
 pub mod Hex
 pub mod Outcomes
 pub mod Words

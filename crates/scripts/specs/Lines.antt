@@ -1,8 +1,8 @@
 -- What the lines of a script ask for.
-use Rattle.std.specs.Prelude.{ℕ, Bool, cond, not, ◌==◌, nat_eq, List, [], ◌∷◌, codes, Some, None, Ok, Err, Option, Result, length}
+use Rattle.std.specs.Prelude.{ℕ, Bool, if◌then◌else◌, not, ◌==◌, nat_eq, List, [], ◌∷◌, codes, Some, None, Ok, Err, Option, Result, length}
 use Rattle.std.specs.List.{filter, slice_split, starts_with}
-use Rattle.runs.specs.declared.pile.Pile.{Pile}
-use Rattle.runs.specs.Steps.{Step, name, file, load, lay_aside, restore, seed, unseed, freeze, reopen, step_of}
+use Rattle.locality.specs.declared.test.Test.{Test}
+use Rattle.runs.specs.Steps.{Change, Step, change, name, file, load, lay_aside, restore, seed, unseed, freeze, reopen, step_of}
 use Rattle.scripts.specs.declared.halt.LineFault.{LineFault}
 use Rattle.scripts.specs.declared.halt.LineFault.TheVariants.{UnknownCall, TooFewWords, TooManyWords}
 use Rattle.scripts.specs.declared.request.Request.{Request}
@@ -12,11 +12,11 @@ use Rattle.scripts.specs.declared.verb.Verb.TheVariants as Verb'
 use Rattle.scripts.specs.Hex.{bytes_value}
 use Rattle.scripts.specs.Words.{byte_value, number_value, pile_value, verb_named}
 
--- a call on the book, or a marking or a writing through a pile, with buffers of these lengths
+-- a call on the book, or a marking or a writing through a pile of these tests, with buffers of these lengths
 pub data Asked : Type 0 where
   perform : Step → Asked
-  mark : Pile → ℕ → ℕ → Asked
-  write : Pile → ℕ → ℕ → ℕ → Asked
+  mark : List Test → ℕ → ℕ → Asked
+  write : List Test → ℕ → ℕ → ℕ → Asked
 
 abbrev pub asked_of : Request → Asked
 asked_of (Request'.Perform call) = perform (step_of call)
@@ -45,15 +45,15 @@ abbrev pub word : {A : Type 0} → (List ℕ → Result A LineFault) → List (L
 word value [] = stopped TooFewWords
 word value (w ∷ rest) = settled (value w) rest
 
--- one word for the call's one argument
-abbrev pub of_number : (ℕ → Step) → List (List ℕ) → Taken Asked
-of_number call ws = next (word number_value ws) (λ n rest. taken (perform (call n)) rest)
+-- one word for the edit's one argument
+abbrev pub of_number : (ℕ → Change) → List (List ℕ) → Taken Asked
+of_number edit ws = next (word number_value ws) (λ n rest. taken (perform (change (edit n))) rest)
 
 -- a call by its first word and the words behind it
 abbrev pub request_from : Verb → List (List ℕ) → Taken Asked
-request_from Verb'.Name ws = next (word byte_value ws) (λ kind rest. next (word bytes_value rest) (λ label rest. taken (perform (name kind label)) rest))
-request_from Verb'.File ws = next (word number_value ws) (λ kind rest. next (word bytes_value rest) (λ body rest. taken (perform (file kind body)) rest))
-request_from Verb'.Load ws = next (word bytes_value ws) (λ bytes rest. taken (perform (load bytes)) rest)
+request_from Verb'.Name ws = next (word byte_value ws) (λ kind rest. next (word bytes_value rest) (λ label rest. taken (perform (change (name kind label))) rest))
+request_from Verb'.File ws = next (word number_value ws) (λ kind rest. next (word bytes_value rest) (λ body rest. taken (perform (change (file kind body))) rest))
+request_from Verb'.Load ws = next (word bytes_value ws) (λ bytes rest. taken (perform (change (load bytes))) rest)
 request_from Verb'.Aside ws = of_number lay_aside ws
 request_from Verb'.Restore ws = of_number restore ws
 request_from Verb'.Seed ws = of_number seed ws
@@ -83,4 +83,4 @@ abbrev pub is_comment : List ℕ → Bool
 is_comment line = starts_with nat_eq line (codes "#")
 
 abbrev pub line_request : List ℕ → Result (Option Asked) LineFault
-line_request line = cond (is_comment line) (Ok None) (request_of_words (words line))
+line_request line = if is_comment line then (Ok None) else (request_of_words (words line))

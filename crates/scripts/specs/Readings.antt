@@ -1,5 +1,5 @@
 -- What a reader of a line's words answers.
-use Rattle.std.specs.Prelude.{◌≡◌, ℕ, List, Ok, Err, Result, map}
+use Rattle.std.specs.Prelude.{◌≡◌, ℕ, List, Some, None, Ok, Err, Option, Result, IfSome, map}
 use Rattle.std.specs.Bool.{⊤}
 use Rattle.std.specs.Slice.Iter.{iter_rest}
 use Rattle.scripts.specs.declared.halt.Halt.{Halt}
@@ -23,8 +23,12 @@ ReadsInRoom value (Ok x) w t = t ≡ taken (value x) (left w)
 ReadsInRoom value (Err (NoCall f)) w t = t ≡ stopped f
 ReadsInRoom value (Err Memory) w t = ⊤
 
--- r is this answer, unless memory has run out
-abbrev pub AnswersInRoom : {A B : Type 0} → (A → B) → Result A Halt → Result B LineFault → Type 0
-AnswersInRoom value (Ok x) o = o ≡ Ok (value x)
-AnswersInRoom value (Err (NoCall f)) o = o ≡ Err f
-AnswersInRoom value (Err Memory) o = ⊤
+-- the fault that an error is, unless memory has run out
+abbrev pub fault_in : Halt → Option LineFault
+fault_in (NoCall f) = Some f
+fault_in Memory = None
+
+-- r is this answer; `fault` tells which fault an error is, and of one that is none nothing is said
+abbrev pub AnswersInRoom : {A B E F : Type 0} → (E → Option F) → (A → B) → Result A E → Result B F → Type 0
+AnswersInRoom fault value (Ok x) o = o ≡ Ok (value x)
+AnswersInRoom fault value (Err e) o = IfSome (fault e) (λ f. o ≡ Err f)

@@ -4,23 +4,23 @@ use Rattle.std.specs.Bool.{⊤}
 use Rattle.std.specs.List.{slice_split}
 use Rattle.std.specs.Result.{IfOk}
 use Rattle.runs.specs.declared.state.State.{State}
-use Rattle.runs.specs.Stacks.{stack_of}
-use Rattle.runs.specs.Steps.{Step, Standing, drawn, standing}
+use Rattle.runs.specs.Promise.{Promise}
+use Rattle.runs.specs.Steps.{Step, Standing, standing, state_after}
 use Rattle.scripts.specs.declared.halt.Halt.{Halt}
 use Rattle.scripts.specs.declared.halt.Halt.TheVariants.{NoCall, Memory}
 use Rattle.scripts.specs.declared.halt.LineFault.{LineFault}
 use Rattle.scripts.specs.declared.halt.ScriptFault.{ScriptFault}
 use Rattle.scripts.specs.Lines.{Asked, perform, mark, write, line_request}
-use Rattle.scripts.specs.Replies.{reply, mark_buffers, write_buffers, MarkUpheld, WriteUpheld}
+use Rattle.scripts.specs.Replies.{pile_of, reply}
 
 -- the book after a line that asks for something or for nothing, and the answer, on a line of its own
 abbrev pub after_line : Standing → Option Asked → Standing
 after_line s None = s
-after_line s (Some a) = (reply s a).after
+after_line s (Some a) = (reply s a).state
 
 abbrev pub answer_line : Standing → Option Asked → List ℕ
 answer_line s None = []
-answer_line s (Some a) = (reply s a).text ++ 10 ∷ []
+answer_line s (Some a) = (reply s a).answer ++ 10 ∷ []
 
 -- what a line leads to: the book after it, or why it is no call; and what is answered
 pub record LineOutcome : Type 0 where
@@ -60,17 +60,16 @@ calls_of (Some (perform call)) = call ∷ []
 calls_of (Some (mark pile axioms names)) = []
 calls_of (Some (write pile axioms names part)) = []
 
--- what is answered to a marking or a writing has the promise for the list of the calls before it
-abbrev pub LineUpheld : List Step → Option Asked → Type 0
-LineUpheld cs None = ⊤
-LineUpheld cs (Some (perform call)) = ⊤
-LineUpheld cs (Some (mark pile axioms names)) = MarkUpheld cs (stack_of pile) (mark_buffers axioms names)
-LineUpheld cs (Some (write pile axioms names part)) = WriteUpheld cs (stack_of pile) (write_buffers axioms names part)
+-- a marking and a writing have the promise of the list of the calls before them, and of their pile
+abbrev pub LinePromise : List Step → Option Asked → Type 0
+LinePromise cs (Some (mark tests axioms names)) = Promise cs (pile_of tests)
+LinePromise cs (Some (write tests axioms names part)) = Promise cs (pile_of tests)
+LinePromise cs _ = ⊤
 
 -- so has each of these lines, up to one that is no call
-abbrev pub AllUpheld : List Step → List (List ℕ) → Type 0
-AllUpheld cs [] = ⊤
-AllUpheld cs (l ∷ ls) = IfOk (line_request l) (λ r. LineUpheld cs r × AllUpheld (cs ++ calls_of r) ls)
+abbrev pub LinesPromise : List Step → List (List ℕ) → Type 0
+LinesPromise cs [] = ⊤
+LinesPromise cs (l ∷ ls) = IfOk (line_request l) (λ r. LinePromise cs r × LinesPromise (cs ++ calls_of r) ls)
 
 -- r is where a line leads, and the answers grow by its text; where memory has run out they are as before
 abbrev pub LineDone : List ℕ → List ℕ → Result State Halt → LineOutcome → Type 0
@@ -80,9 +79,9 @@ LineDone old new (Err Memory) o = new ≡ old
 
 -- lines behind these calls: how they end, and how the answers grow
 pub record Reaches (cs : List Step) (number : ℕ) (ls : List (List ℕ)) (old new : List ℕ) (stop : Option (ℕ × LineFault)) : Type 0 where
-  pub stops : (lines_outcome (drawn cs) number ls).stop ≡ stop
-  pub grows : new ≡ old ++ (lines_outcome (drawn cs) number ls).text
-  pub promise : AllUpheld cs ls
+  pub stops : (lines_outcome (state_after cs) number ls).stop ≡ stop
+  pub grows : new ≡ old ++ (lines_outcome (state_after cs) number ls).text
+  pub promise : LinesPromise cs ls
 
 -- memory has run out at a line: those before it were performed
 pub record HaltsAt (cs : List Step) (number : ℕ) (ls : List (List ℕ)) (old new : List ℕ) (line : ℕ) : Type 0 where

@@ -1,30 +1,19 @@
 -- What a word of a script stands for, or why it stands for nothing.
-use Rattle.std.specs.Prelude.{ℕ, ◌^◌, Bool, cond, not, ◌&&◌, ◌==◌, List, [], ◌∷◌, codes, Ok, Err, Option, Result, bytes_eq, length, nat_lt}
+use Rattle.std.specs.Prelude.{ℕ, ◌^◌, Bool, if◌then◌else◌, not, ◌&&◌, ◌==◌, List, [], ◌∷◌, codes, Ok, Err, Option, Result, bytes_eq, length, nat_lt}
 use Rattle.std.specs.Char.{is_ascii_digit}
 use Rattle.std.specs.List.{find, list_all}
 use Rattle.std.specs.Option.{ok_or}
 use Rattle.std.specs.Str.Parse.{digits_value}
-use Rattle.runs.specs.declared.pile.Pile.{Pile}
-use Rattle.runs.specs.declared.pile.Pile.TheVariants.{Whole, Bottom, Top, TopOverBottom, BottomOverTop}
+use Rattle.locality.specs.declared.test.Test.{Test}
 use Rattle.scripts.specs.declared.halt.LineFault.{LineFault}
 use Rattle.scripts.specs.declared.halt.LineFault.TheVariants.{NotDecimal, TooLarge, UnknownPile}
+use Rattle.scripts.specs.Piles.{pile_named, test_named}
 use Rattle.scripts.specs.declared.verb.Verb.{Verb}
 use Rattle.scripts.specs.declared.verb.Verb.TheVariants as Verb'
 
--- the word for a pile has its tests from the uppermost down
-abbrev pub pile_word : Pile → List ℕ
-pile_word Whole = codes "whole"
-pile_word Bottom = codes "bottom"
-pile_word Top = codes "top"
-pile_word TopOverBottom = codes "top/bottom"
-pile_word BottomOverTop = codes "bottom/top"
-
 -- the pile with this word
-abbrev pub pile_named : List ℕ → Option Pile
-pile_named w = find (λ p. bytes_eq w (pile_word p)) (Whole ∷ Bottom ∷ Top ∷ TopOverBottom ∷ BottomOverTop ∷ [])
-
-abbrev pub pile_value : List ℕ → Result Pile LineFault
-pile_value w = ok_or (pile_named w) UnknownPile
+abbrev pub pile_value : List ℕ → Result (List Test) LineFault
+pile_value w = ok_or (pile_named test_named w) UnknownPile
 
 -- the word that a call begins with
 abbrev pub verb_word : Verb → List ℕ
@@ -52,7 +41,7 @@ is_numeral w = not (length w == 0) && list_all is_ascii_digit w
 
 -- a number below a bound, in decimal digits
 abbrev pub below : ℕ → List ℕ → Result ℕ LineFault
-below bound w = cond (is_numeral w) (cond (nat_lt (digits_value 10 w) bound) (Ok (digits_value 10 w)) (Err TooLarge)) (Err NotDecimal)
+below bound w = if is_numeral w then (if nat_lt (digits_value 10 w) bound then (Ok (digits_value 10 w)) else (Err TooLarge)) else (Err NotDecimal)
 
 abbrev pub number_value : List ℕ → Result ℕ LineFault
 number_value w = below (2 ^ 16) w

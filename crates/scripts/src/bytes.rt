@@ -2,7 +2,7 @@
 // told first is part of what a script is answered.
 ghost use Rattle.std.specs.Prelude.{◌≡◌, ◌<◌, IfOk, IfSome, string_bytes};
 ghost use Rattle.scripts.specs.Hex.{bytes_value, bytes_word, digit_of, pair_value};
-ghost use Rattle.scripts.specs.Readings.{AnswersInRoom};
+ghost use Rattle.scripts.specs.Readings.{AnswersInRoom, fault_in};
 
 use crate::halt::{Halt, LineFault};
 use std::alloc::{AllocError, Global};
@@ -30,7 +30,7 @@ fn byte_of(high: u8, low: u8) -> Option<u8>
 
 // The bytes that a word stands for; a dash stands for none.
 pub(crate) fn bytes_of(heap: Global, word: &str) -> Result<Vec<u8>, Halt>
-    ensures { AnswersInRoom (λ v. v.items) result (bytes_value word.now) }
+    ensures { AnswersInRoom fault_in (λ v. v.items) result (bytes_value word.now) }
 {
     let mut bytes = Vec::new(heap);
     if word == "-" {

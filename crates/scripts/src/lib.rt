@@ -1,4 +1,4 @@
-// Scripts: lines of text that ask for calls on a book, and the text that answers each.
+//! Scripts: lines of text that ask for calls on a book, and the text that answers each.
 #![tactic(auto)]
 
 mod bytes;
@@ -11,5 +11,5 @@ mod verb;
 mod words;
 
 pub use halt::{Halt, LineFault, ScriptFault};
-pub use piles::pile_of;
+pub use piles::{MOST_STAGES, NamedPile, Worded};
 pub use script::perform_lines;

@@ -1,16 +1,28 @@
 // Marking and writing as a line of a script asks for them: through a pile, into buffers that are made for it.
 ghost use Rattle.std.specs.Prelude.{◌≡◌, List, IfOk, OnOk, replicate, string_bytes};
-ghost use Rattle.extraction.specs.Piles.{pile_kept, pile_repair, pile_rounds, PileLaws};
-ghost use Rattle.runs.specs.Delivery.{Delivers, DeliversPromised};
-ghost use Rattle.runs.specs.Promise.{Attempts, Promised};
-ghost use Rattle.runs.specs.Stacks.{stack_of};
-ghost use Rattle.runs.specs.Steps.{Step, drawn, standing};
+ghost use Rattle.refusals.specs.Turns.{Gives};
+ghost use Rattle.extraction.specs.Marking.{lent};
+ghost use Rattle.part.specs.Writing.{lent_for_part};
+ghost use Rattle.runs.specs.Promise.{AreOfBytes, Promise};
+ghost use Rattle.runs.specs.Steps.{Step, standing};
 ghost use Rattle.scripts.specs.Outcomes.{outcome};
-ghost use Rattle.scripts.specs.Replies.{attempt_text, delivery_text, mark_buffers, write_buffers, marked_text, written_text, marking, writing, MarkUpheld, WriteUpheld};
+ghost use Rattle.scripts.specs.Replies.{
+  pile_of,
+  mark_buffers,
+  write_buffers,
+  marked_text,
+  written_text,
+  marking_text,
+  writing_text,
+  marking_turn,
+  writing_turn,
+};
 
 use crate::bytes::word_of;
-use extraction::{MarkFault, Marking};
-use runs::{CallFault, Pile, State};
+use crate::piles::NamedPile;
+use extraction::{MarkFault, Marking, Pile, Whole};
+use locality::Test;
+use runs::{CallFault, State};
 use std::alloc::{AllocError, Global};
 
 // A buffer of a length, with 255 in every byte.
@@ -44,16 +56,19 @@ impl Marked {
     fn of(
         heap: Global,
         state: &State,
-        pile: Pile,
+        pile: &Pile<'_, Test, Whole>,
         axioms: u16,
         names: u16,
     ) -> Result<Marked, AllocError>
-        ensures gives { IfOk result (λ m. Attempts m.axioms.items m.names.items m.answer (marking (standing state.now) (stack_of pile) (mark_buffers axioms names))) }
-        ensures promise { IfOk result (λ m. Promised (standing state.now) (pile_kept (stack_of pile)) (pile_repair (stack_of pile)) (pile_rounds (stack_of pile)) (PileLaws (stack_of pile)) (mark_buffers axioms names) m.axioms.items m.names.items m.answer) }
+        ensures gives { IfOk result (λ m.
+            Gives (lent m.axioms.items m.names.items) m.answer
+            (marking_turn (standing state.now) pile.now.tests.now (mark_buffers axioms names))) }
+        ensures promise { OnOk result
+            ((cs : List Step) → AreOfBytes cs → Promise cs (pile_of pile.now.tests.now)) }
     {
         let mut axioms = buffer(heap, axioms)?;
         let mut names = buffer(heap, names)?;
-        let answer = pile.mark(state, axioms.as_mut_slice(), names.as_mut_slice());
+        let answer = state.mark(pile, axioms.as_mut_slice(), names.as_mut_slice());
         Ok(Marked {
             answer,
             axioms,
@@ -63,7 +78,9 @@ impl Marked {
 
     // The answer, as a script tells it.
     fn told(&self, heap: Global) -> Result<String, AllocError>
-        ensures { IfOk result (λ t. string_bytes t ≡ marked_text (outcome self.now.answer) self.now.axioms.items self.now.names.items) }
+        ensures { IfOk result (λ t.
+            string_bytes t ≡ marked_text (outcome self.now.answer)
+            (lent self.now.axioms.items self.now.names.items)) }
     {
         match outcome_of(self.answer) {
             Err(fault) => format!(in heap; "{fault}"),
@@ -96,19 +113,23 @@ impl Written {
     fn of(
         heap: Global,
         state: &State,
-        pile: Pile,
+        pile: &Pile<'_, Test, Whole>,
         axioms: u16,
         names: u16,
         part: u16,
     ) -> Result<Written, AllocError>
-        ensures gives { IfOk result (λ w. Delivers w.axioms.items w.names.items w.part.items w.answer (writing (standing state.now) (stack_of pile) (write_buffers axioms names part))) }
-        ensures promise { IfOk result (λ w. DeliversPromised (standing state.now) (pile_kept (stack_of pile)) (pile_repair (stack_of pile)) (pile_rounds (stack_of pile)) (PileLaws (stack_of pile)) (write_buffers axioms names part) w.axioms.items w.names.items w.part.items w.answer) }
+        ensures gives { IfOk result (λ w.
+            Gives (lent_for_part w.axioms.items w.names.items w.part.items) w.answer
+            (writing_turn (standing state.now) pile.now.tests.now
+            (write_buffers axioms names part))) }
+        ensures promise { OnOk result
+            ((cs : List Step) → AreOfBytes cs → Promise cs (pile_of pile.now.tests.now)) }
     {
         let mut axioms = buffer(heap, axioms)?;
         let mut names = buffer(heap, names)?;
         let mut part = buffer(heap, part)?;
-        let answer = pile.write(
-            state,
+        let answer = state.write(
+            pile,
             axioms.as_mut_slice(),
             names.as_mut_slice(),
             part.as_mut_slice(),
@@ -123,7 +144,9 @@ impl Written {
 
     // The answer, as a script tells it.
     fn told(&self, heap: Global) -> Result<String, AllocError>
-        ensures { IfOk result (λ t. string_bytes t ≡ written_text (outcome self.now.answer) self.now.axioms.items self.now.names.items self.now.part.items) }
+        ensures { IfOk result (λ t.
+            string_bytes t ≡ written_text (outcome self.now.answer)
+            (lent_for_part self.now.axioms.items self.now.names.items self.now.part.items)) }
     {
         match outcome_of(self.answer) {
             Err(fault) => format!(in heap; "{fault}"),
@@ -141,27 +164,35 @@ impl Written {
 pub(crate) fn mark(
     heap: Global,
     state: &State,
-    pile: Pile,
+    pile: &NamedPile<Test>,
     axioms: u16,
     names: u16,
 ) -> Result<String, AllocError>
-    ensures text { IfOk result (λ t. string_bytes t ≡ attempt_text (marking (standing state.now) (stack_of pile) (mark_buffers axioms names))) }
-    ensures promise { OnOk result ((cs : List Step) → standing state.now ≡ drawn cs → MarkUpheld cs (stack_of pile) (mark_buffers axioms names)) }
+    ensures text { IfOk result (λ t.
+        string_bytes t ≡ marking_text
+        (marking_turn (standing state.now) pile.now (mark_buffers axioms names))) }
+    ensures promise { OnOk result
+        ((cs : List Step) → AreOfBytes cs → Promise cs (pile_of pile.now)) }
 {
-    Marked::of(heap, state, pile, axioms, names)?.told(heap)
+    let stages = pile.extractor();
+    Marked::of(heap, state, &stages, axioms, names)?.told(heap)
 }
 
 // Writes the part of a book through a pile, with buffers of these lengths, and tells the answer.
 pub(crate) fn write(
     heap: Global,
     state: &State,
-    pile: Pile,
+    pile: &NamedPile<Test>,
     axioms: u16,
     names: u16,
     part: u16,
 ) -> Result<String, AllocError>
-    ensures text { IfOk result (λ t. string_bytes t ≡ delivery_text (writing (standing state.now) (stack_of pile) (write_buffers axioms names part))) }
-    ensures promise { OnOk result ((cs : List Step) → standing state.now ≡ drawn cs → WriteUpheld cs (stack_of pile) (write_buffers axioms names part)) }
+    ensures text { IfOk result (λ t.
+        string_bytes t ≡ writing_text
+        (writing_turn (standing state.now) pile.now (write_buffers axioms names part))) }
+    ensures promise { OnOk result
+        ((cs : List Step) → AreOfBytes cs → Promise cs (pile_of pile.now)) }
 {
-    Written::of(heap, state, pile, axioms, names, part)?.told(heap)
+    let stages = pile.extractor();
+    Written::of(heap, state, &stages, axioms, names, part)?.told(heap)
 }

@@ -2,31 +2,48 @@
 ghost use Rattle.std.specs.Prelude.{◌≡◌, map};
 ghost use Rattle.std.specs.Option.{option_map};
 ghost use Rattle.scripts.specs.Lines.{asked_of, is_comment, line_request, request_from, request_of_words};
-ghost use Rattle.scripts.specs.Readings.{AnswersInRoom};
+ghost use Rattle.scripts.specs.Readings.{AnswersInRoom, fault_in};
 
 use crate::halt::{Halt, LineFault};
+use crate::piles::NamedPile;
 use crate::verb::{Verb, verb_of};
 use crate::words::{Words, words_of};
 use book::AxiomId;
-use runs::{Call, Pile};
+use locality::Test;
+use runs::{Call, Edit};
 use std::alloc::Global;
 use vocabulary::NameId;
 
-// What a line asks for: a call that may change the book, or a marking or a writing with buffers of these lengths.
+/// What a line asks for: a call that may change the book, or a marking or a writing with buffers of these lengths.
 #[derive(Drop)]
 pub enum Request {
+    /// A call.
     Perform(Call),
+    /// A marking through a pile.
     Mark {
-        pile: Pile,
+        pile: NamedPile<Test>,
         axioms: u16,
         names: u16,
     },
+    /// A writing through a pile.
     Write {
-        pile: Pile,
+        pile: NamedPile<Test>,
         axioms: u16,
         names: u16,
         part: u16,
     },
+}
+
+impl Request {
+    ghost use Rattle.runs.specs.Steps.{change, change_of};
+    ghost use Rattle.scripts.specs.Lines.{asked_of, perform};
+
+    // That an edit be made.
+    fn of_edit(edit: Edit) -> Request
+        ensures { asked_of result ≡ perform (change (change_of edit)) }
+    {
+        Request::Perform(Call::Edit(edit))
+    }
 }
 
 impl<'a> Words<'a> {
@@ -41,20 +58,20 @@ impl<'a> Words<'a> {
             Verb::Name => {
                 let kind = self.byte()?;
                 let label = self.bytes(heap)?;
-                Ok(Request::Perform(Call::Name { kind, label }))
+                Ok(Request::of_edit(Edit::Name { kind, label }))
             }
             Verb::File => {
                 let kind = self.number()?;
                 let body = self.bytes(heap)?;
-                Ok(Request::Perform(Call::File { kind, body }))
+                Ok(Request::of_edit(Edit::File { kind, body }))
             }
-            Verb::Load => Ok(Request::Perform(Call::Load {
+            Verb::Load => Ok(Request::of_edit(Edit::Load {
                 file: self.bytes(heap)?,
             })),
-            Verb::Aside => Ok(Request::Perform(Call::LayAside(AxiomId(self.number()?)))),
-            Verb::Restore => Ok(Request::Perform(Call::Restore(AxiomId(self.number()?)))),
-            Verb::Seed => Ok(Request::Perform(Call::Seed(NameId(self.number()?)))),
-            Verb::Unseed => Ok(Request::Perform(Call::Unseed(NameId(self.number()?)))),
+            Verb::Aside => Ok(Request::of_edit(Edit::LayAside(AxiomId(self.number()?)))),
+            Verb::Restore => Ok(Request::of_edit(Edit::Restore(AxiomId(self.number()?)))),
+            Verb::Seed => Ok(Request::of_edit(Edit::Seed(NameId(self.number()?)))),
+            Verb::Unseed => Ok(Request::of_edit(Edit::Unseed(NameId(self.number()?)))),
             Verb::Freeze => Ok(Request::Perform(Call::Freeze)),
             Verb::Reopen => Ok(Request::Perform(Call::Reopen)),
             Verb::Mark => {
@@ -91,7 +108,8 @@ fn is_comment(line: &str) -> bool
 
 // The request of these words; none, if there is no word.
 fn request_of_words(heap: Global, words: &[&str]) -> Result<Option<Request>, Halt>
-    ensures { AnswersInRoom (option_map asked_of) result (request_of_words (map (λ w. w.now) words.now)) }
+    ensures { AnswersInRoom fault_in (option_map asked_of) result
+        (request_of_words (map (λ w. w.now) words.now)) }
 {
     let mut rest = words.iter();
     let Some(first) = rest.next() else {
@@ -108,7 +126,7 @@ fn request_of_words(heap: Global, words: &[&str]) -> Result<Option<Request>, Hal
 
 // The request of a line, or None for a line that is skipped: a comment, or one without a word.
 pub(crate) fn request_of(heap: Global, line: &str) -> Result<Option<Request>, Halt>
-    ensures { AnswersInRoom (option_map asked_of) result (line_request line.now) }
+    ensures { AnswersInRoom fault_in (option_map asked_of) result (line_request line.now) }
 {
     if is_comment(line) {
         return Ok(None);

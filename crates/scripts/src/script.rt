@@ -1,9 +1,17 @@
 // Scripts: a call to a line, performed one after the other on a book that begins empty.
 ghost use Rattle.std.specs.Prelude.{◌≡◌, [], ◌∷◌, ◌++◌, IfOk, IfSome, List, OnErr, OnOk, map, string_bytes};
-ghost use Rattle.runs.specs.Steps.{Step, drawn, standing};
+ghost use Rattle.runs.specs.Promise.{AreOfBytes};
+ghost use Rattle.runs.specs.Steps.{Step, standing};
 ghost use Rattle.scripts.specs.Lines.{asked_of, line_request};
 ghost use Rattle.scripts.specs.Replies.{reply};
-ghost use Rattle.scripts.specs.Scripts.{LineDone, LinesDone, LineUpheld, ScriptDone, line_outcome, lines};
+ghost use Rattle.scripts.specs.Scripts.{
+  LineDone,
+  LinesDone,
+  LinePromise,
+  ScriptDone,
+  line_outcome,
+  lines,
+};
 
 use crate::halt::{Halt, ScriptFault};
 use crate::marks::{mark, write};
@@ -19,7 +27,8 @@ const NO_MEMORY: ScriptFault = ScriptFault {
 
 // Adds an answer, on a line of its own; where memory has run out nothing is added.
 fn add_line(answers: &mut String, answer: String) -> Result<(), AllocError>
-    ensures added { OnOk result (string_bytes answers.new ≡ string_bytes answers.old ++ (string_bytes answer ++ 10 ∷ [])) }
+    ensures added { OnOk result (string_bytes answers.new
+        ≡ string_bytes answers.old ++ (string_bytes answer ++ 10 ∷ [])) }
     ensures kept { OnErr result (string_bytes answers.new ≡ string_bytes answers.old) }
 {
     let mut line = answer;
@@ -34,10 +43,13 @@ fn perform_request(
     request: Request,
     answers: &mut String,
 ) -> Result<State, AllocError>
-    ensures after { IfOk result (λ s. standing s ≡ (reply (standing state) (asked_of request)).after) }
-    ensures answer { OnOk result (string_bytes answers.new ≡ string_bytes answers.old ++ ((reply (standing state) (asked_of request)).text ++ 10 ∷ [])) }
+    ensures after { IfOk result (λ s.
+        standing s ≡ (reply (standing state) (asked_of request)).state) }
+    ensures answer { let text = (reply (standing state) (asked_of request)).answer in
+        OnOk result (string_bytes answers.new ≡ string_bytes answers.old ++ (text ++ 10 ∷ [])) }
     ensures kept { OnErr result (string_bytes answers.new ≡ string_bytes answers.old) }
-    ensures promise { OnOk result ((cs : List Step) → standing state ≡ drawn cs → LineUpheld cs (Some (asked_of request))) }
+    ensures promise { OnOk result
+        ((cs : List Step) → AreOfBytes cs → LinePromise cs (Some (asked_of request))) }
 {
     match request {
         Request::Perform(call) => {
@@ -51,7 +63,7 @@ fn perform_request(
             axioms,
             names,
         } => {
-            let answer = mark(heap, &state, pile, axioms, names)?;
+            let answer = mark(heap, &state, &pile, axioms, names)?;
             add_line(answers, answer)?;
             Ok(state)
         }
@@ -61,7 +73,7 @@ fn perform_request(
             names,
             part,
         } => {
-            let answer = write(heap, &state, pile, axioms, names, part)?;
+            let answer = write(heap, &state, &pile, axioms, names, part)?;
             add_line(answers, answer)?;
             Ok(state)
         }
@@ -70,8 +82,10 @@ fn perform_request(
 
 // Does what a line asks for, if anything, and answers the book after it.
 fn perform_line(heap: Global, state: State, line: &str, answers: &mut String) -> Result<State, Halt>
-    ensures done { LineDone (string_bytes answers.old) (string_bytes answers.new) result (line_outcome (standing state) (line_request line.now)) }
-    ensures promise { OnOk result ((cs : List Step) → standing state ≡ drawn cs → IfOk (line_request line.now) (LineUpheld cs)) }
+    ensures done { LineDone (string_bytes answers.old) (string_bytes answers.new) result
+        (line_outcome (standing state) (line_request line.now)) }
+    ensures promise { OnOk result
+        ((cs : List Step) → AreOfBytes cs → IfOk (line_request line.now) (LinePromise cs)) }
 {
     match request_of(heap, line)? {
         None => Ok(state),
@@ -88,7 +102,8 @@ fn lines_of(heap: Global, script: &str) -> Result<Vec<&str>, AllocError>
 
 // Performs lines on an empty draft, one after the other, and adds an answer for each call.
 fn perform_all(heap: Global, lines: &[&str], answers: &mut String) -> Result<(), ScriptFault>
-    ensures { LinesDone [] 1 (map (λ l. l.now) lines.now) (string_bytes answers.old) (string_bytes answers.new) result }
+    ensures { LinesDone [] 1 (map (λ l. l.now) lines.now) (string_bytes answers.old)
+        (string_bytes answers.new) result }
 {
     let mut state = match State::open(heap) {
         Ok(state) => state,
@@ -108,7 +123,9 @@ fn perform_all(heap: Global, lines: &[&str], answers: &mut String) -> Result<(),
     Ok(())
 }
 
-// Performs the calls of a script on an empty draft, and adds an answer for each.
+/// Performs the calls of a script on an empty draft, one a line, and adds an answer for each on a line of its own. The first
+/// line that is no call ends it, and so does want of memory; the answers before it stay. The rules of lines and answers stand
+/// in docs/SCRIPTS.md.
 pub fn perform_lines(heap: Global, script: &str, answers: &mut String) -> Result<(), ScriptFault>
     ensures { ScriptDone script.now (string_bytes answers.old) (string_bytes answers.new) result }
 {

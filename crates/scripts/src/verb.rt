@@ -2,18 +2,30 @@
 ghost use Rattle.std.specs.Prelude.{◌≡◌};
 ghost use Rattle.scripts.specs.Words.{verb_named};
 
+/// The words that calls begin with.
 #[derive(Clone, Copy, Debug, PartialEq, Eq)]
 pub enum Verb {
+    /// Names.
     Name,
+    /// Files an axiom.
     File,
+    /// Loads a file.
     Load,
+    /// Lays an axiom aside.
     Aside,
+    /// Restores an axiom.
     Restore,
+    /// Seeds a name.
     Seed,
+    /// Unseeds a name.
     Unseed,
+    /// Freezes the draft.
     Freeze,
+    /// Reopens the frozen book.
     Reopen,
+    /// Marks through a pile.
     Mark,
+    /// Writes the part through a pile.
     Write,
 }
 

@@ -8,8 +8,8 @@ ghost use Rattle.scripts.specs.Words.{byte_value, is_numeral, number_value, pile
 
 use crate::bytes::bytes_of;
 use crate::halt::{Halt, LineFault};
-use crate::piles::pile_of;
-use runs::Pile;
+use crate::piles::NamedPile;
+use locality::Test;
 use std::alloc::{AllocError, Global};
 use std::slice;
 
@@ -55,9 +55,10 @@ fn byte_of(word: &str) -> Result<u8, LineFault>
     }
 }
 
-// The words of a line that have not been read.
+/// The words of a line that have not been read.
 #[derive(Drop)]
 pub struct Words<'a> {
+    /// These words, in their order.
     pub rest: slice::Iter<'a, &'a str>,
 }
 
@@ -84,10 +85,10 @@ impl<'a> Words<'a> {
         byte_of(self.wanted()?)
     }
 
-    pub(crate) fn pile(&mut self) -> Result<Pile, LineFault>
+    pub(crate) fn pile(&mut self) -> Result<NamedPile<Test>, LineFault>
         ensures { Reads (λ p. p) result self.new (word pile_value (left self.old)) }
     {
-        pile_of(self.wanted()?).ok_or(LineFault::UnknownPile)
+        NamedPile::from_word(self.wanted()?).ok_or(LineFault::UnknownPile)
     }
 
     pub(crate) fn bytes(&mut self, heap: Global) -> Result<Vec<u8>, Halt>

@@ -7,7 +7,7 @@ use Rattle.std.specs.Str.{bytes_eq}
 use Rattle.vocabulary.specs.declared.kind.Kind.{Kind}
 use Rattle.vocabulary.specs.declared.kind.Kind.TheVariants.{Concept, Role, Individual}
 use Rattle.vocabulary.specs.declared.name.Name.{Name}
-use Rattle.vocabulary.specs.Entities.{Entity, entity, named}
+use Rattle.vocabulary.specs.Entities.{Entity, entity, is_named}
 use Rattle.vocabulary.specs.Kinds.{kind_text, same_kind}
 use Rattle.winavulor.specs.Words.{name_of_word, name_word}
 
@@ -53,9 +53,9 @@ same_test Individual Role m l = refl
 same_test Individual Individual m l = refl
 
 -- the first of the names with this kind and this label is the one with the word a:l, where a is the kind's
-pub of_kind : (ns : List Name) (es : List Entity) (k : Kind) (w a l : List ℕ) → map entity ns ≡ es → a ≡ kind_text k → w ≡ a ++ 58 ∷ l → position (λ n. named k l (entity n)) ns ≡ name_of_word es w
+pub of_kind : (ns : List Name) (es : List Entity) (k : Kind) (w a l : List ℕ) → map entity ns ≡ es → a ≡ kind_text k → w ≡ a ++ 58 ∷ l → position (λ n. is_named k l (entity n)) ns ≡ name_of_word es w
 of_kind ns es k w a l all at split =
-    place entity (λ n. named k l (entity n)) (λ e. bytes_eq (name_word e) (kind_text k ++ 58 ∷ l)) (λ n. same_test (entity n).kind k (entity n).label l) ns
+    place entity (λ n. is_named k l (entity n)) (λ e. bytes_eq (name_word e) (kind_text k ++ 58 ∷ l)) (λ n. same_test (entity n).kind k (entity n).label l) ns
     ∙ ap₂ (λ t x. name_of_word t x) all (sym (split ∙ ap (λ t. t ++ 58 ∷ l) at))
 
 abbrev colon : ℕ → Bool

@@ -1,10 +1,9 @@
 -- What the words of the command line ask for.
-use Rattle.std.specs.Prelude.{ℕ, cond, ◌||◌, List, [], ◌∷◌, codes, Some, None, Option, bytes_eq, map, string_bytes}
-use Rattle.std.specs.List.{list_any}
-use Rattle.runs.specs.declared.pile.Pile.{Pile}
-use Rattle.runs.specs.declared.pile.Pile.TheVariants.{Bottom}
-use Rattle.scripts.specs.Words.{pile_named}
-use Rattle.winavulor.specs.Options.{is_option}
+use Rattle.std.specs.Prelude.{ℕ, ◌||◌, if◌then◌else◌, List, [], ◌∷◌, codes, Some, None, Option, bytes_eq, map, string_bytes}
+use Rattle.locality.specs.declared.test.Test.{Test}
+use Rattle.locality.specs.declared.test.Test.TheVariants.{Bottom}
+use Rattle.scripts.specs.Piles.{pile_named, test_named}
+use Rattle.winavulor.specs.Options.{any_option}
 use Rattle.winavulor.specs.declared.command.Command.{Command}
 use Rattle.winavulor.specs.declared.command.Command.TheVariants as Command'
 
@@ -15,7 +14,7 @@ pub data Task : Type 0 where
   check : List ℕ → Task
   show : List ℕ → Task
   run : List ℕ → Task
-  cut : List ℕ → List ℕ → Pile → List (List ℕ) → Task
+  cut : List ℕ → List ℕ → List Test → List (List ℕ) → Task
 
 abbrev pub task_of : Command → Task
 task_of Command'.Example = example
@@ -27,28 +26,28 @@ task_of (Command'.Cut order) = cut order.book.now order.part.now order.pile (map
 
 -- a word alone asks for the usage text, in three spellings
 abbrev pub lone_task : List ℕ → Option Task
-lone_task v = cond (bytes_eq v (codes "help") || (bytes_eq v (codes "--help") || bytes_eq v (codes "-h"))) (Some help) None
+lone_task v = if bytes_eq v (codes "help") || (bytes_eq v (codes "--help") || bytes_eq v (codes "-h")) then (Some help) else None
 
 abbrev pub file_task : List ℕ → List ℕ → Option Task
-file_task v path = cond (bytes_eq v (codes "check")) (Some (check path)) (cond (bytes_eq v (codes "show")) (Some (show path)) (cond (bytes_eq v (codes "run")) (Some (run path)) None))
+file_task v path = if bytes_eq v (codes "check") then (Some (check path)) else if bytes_eq v (codes "show") then (Some (show path)) else if bytes_eq v (codes "run") then (Some (run path)) else None
 
 -- a cut with these files; no word of it may be an option
-abbrev pub plain_cut : List ℕ → List ℕ → Pile → List (List ℕ) → Option Task
-plain_cut book part pile names = cond (is_option book || (is_option part || list_any is_option names)) None (Some (cut book part pile names))
+abbrev pub plain_cut : List ℕ → List ℕ → List Test → List (List ℕ) → Option Task
+plain_cut book part pile names = if any_option book part names then None else Some (cut book part pile names)
 
-abbrev pub through : List ℕ → List ℕ → List (List ℕ) → Option Pile → Option Task
+abbrev pub through : List ℕ → List ℕ → List (List ℕ) → Option (List Test) → Option Task
 through book part names None = None
 through book part names (Some pile) = plain_cut book part pile names
 
 -- behind the files a pile may be named; it is bottom where none is
 abbrev pub cut_task : List ℕ → List ℕ → List (List ℕ) → Option Task
-cut_task book part [] = plain_cut book part Bottom []
-cut_task book part (w ∷ []) = plain_cut book part Bottom (w ∷ [])
-cut_task book part (o ∷ w ∷ names) = cond (bytes_eq o (codes "--pile")) (through book part names (pile_named w)) (plain_cut book part Bottom (o ∷ w ∷ names))
+cut_task book part [] = plain_cut book part (Bottom ∷ []) []
+cut_task book part (w ∷ []) = plain_cut book part (Bottom ∷ []) (w ∷ [])
+cut_task book part (o ∷ w ∷ names) = if bytes_eq o (codes "--pile") then (through book part names (pile_named test_named w)) else (plain_cut book part (Bottom ∷ []) (o ∷ w ∷ names))
 
 -- the words behind the program's own name
 abbrev pub task : List (List ℕ) → Option Task
 task [] = Some example
 task (v ∷ []) = lone_task v
 task (v ∷ path ∷ []) = file_task v path
-task (v ∷ book ∷ part ∷ ws) = cond (bytes_eq v (codes "cut")) (cut_task book part ws) None
+task (v ∷ book ∷ part ∷ ws) = if bytes_eq v (codes "cut") then (cut_task book part ws) else None

@@ -1,12 +1,16 @@
--- What a reader of words answers.
-use Rattle.std.specs.Prelude.{◌≡◌, ℕ, List, Ok, Err, Result, string_bytes}
+-- What a reader of words answers, where it fails.
+use Rattle.std.specs.Prelude.{ℕ, List, Some, None, Option, string_bytes}
 use Rattle.std.specs.Bool.{⊤}
 use Rattle.winavulor.specs.declared.failure.Failure.{Failure}
 use Rattle.winavulor.specs.declared.failure.Failure.TheVariants.{NoSuchName, Memory}
 
--- r is this answer, with the word that stands for no name where it is refused, unless memory has run out
-abbrev pub AnswersInRoom : {A B : Type 0} → (A → B) → Result A Failure → Result B (List ℕ) → Type 0
-AnswersInRoom value (Ok x) o = o ≡ Ok (value x)
-AnswersInRoom value (Err (NoSuchName w)) o = o ≡ Err (string_bytes w)
-AnswersInRoom value (Err Memory) o = ⊤
-AnswersInRoom value (Err f) o = ⊥
+-- the word that a failure is about, if it is one that stands for no name
+abbrev pub word_in : Failure → Option (List ℕ)
+word_in (NoSuchName w) = Some (string_bytes w)
+word_in _ = None
+
+-- it is about a word, or memory has run out
+abbrev pub FailsInWords : Failure → Type 0
+FailsInWords (NoSuchName w) = ⊤
+FailsInWords Memory = ⊤
+FailsInWords _ = ⊥

@@ -2,7 +2,7 @@
 use Rattle.std.specs.Prelude.{ℕ, List, [], ◌∷◌, ◌++◌, Some, None, Ok, Err, Option, Result, bytes_eq, position}
 use Rattle.vocabulary.specs.Entities.{Entity}
 use Rattle.vocabulary.specs.Kinds.{kind_text}
-use Rattle.runs.specs.Steps.{Step, seed, freeze}
+use Rattle.runs.specs.Steps.{Change, seed}
 
 -- the word for a name: its kind, a colon, and its label
 abbrev pub name_word : Entity → List ℕ
@@ -12,14 +12,14 @@ name_word e = kind_text e.kind ++ 58 ∷ e.label
 abbrev pub name_of_word : List Entity → List ℕ → Option ℕ
 name_of_word es w = position (λ e. bytes_eq (name_word e) w) es
 
--- the name that a word stands for is seeded ahead of the calls for the words behind it
-abbrev pub seeding : List ℕ → Option ℕ → Result (List Step) (List ℕ) → Result (List Step) (List ℕ)
-seeding w None rest = Err w
-seeding w (Some n) (Ok cs) = Ok (seed n ∷ cs)
-seeding w (Some n) (Err v) = Err v
+-- the name that a word stands for is seeded ahead of those of the words behind it
+abbrev pub seeded_ahead : List ℕ → Option ℕ → Result (List Change) (List ℕ) → Result (List Change) (List ℕ)
+seeded_ahead w None rest = Err w
+seeded_ahead w (Some n) (Ok edits) = Ok (seed n ∷ edits)
+seeded_ahead w (Some n) (Err v) = Err v
 
--- the calls of a cut: they seed the names that the words stand for, one after the other, and then freeze; or else the
--- first word that stands for no name
-abbrev pub cut_calls : List Entity → List (List ℕ) → Result (List Step) (List ℕ)
-cut_calls es [] = Ok (freeze ∷ [])
-cut_calls es (w ∷ ws) = seeding w (name_of_word es w) (cut_calls es ws)
+-- the edits of a cut: they seed the names that the words stand for, one after the other; or else the first word that
+-- stands for no name
+abbrev pub seedings : List Entity → List (List ℕ) → Result (List Change) (List ℕ)
+seedings es [] = Ok []
+seedings es (w ∷ ws) = seeded_ahead w (name_of_word es w) (seedings es ws)

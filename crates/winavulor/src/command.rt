@@ -3,13 +3,14 @@ ghost use Rattle.std.specs.Prelude.{◌≡◌, IfOk, bytes_eq, map, string_bytes
 ghost use Rattle.std.specs.List.{list_any};
 ghost use Rattle.std.specs.Option.{option_map};
 ghost use Rattle.winavulor.specs.Faults.{fault_of, no_pile, usage_fault, verbs};
-ghost use Rattle.winavulor.specs.Options.{is_option};
+ghost use Rattle.winavulor.specs.Options.{any_option, is_option};
 
-use runs::Pile;
-use scripts::pile_of;
+use locality::Test;
+use scripts::NamedPile;
 use std::alloc::{AllocError, Global};
 use thiserror::Error;
 
+/// The usage text.
 pub const USAGE: &str = "usage:
   winavulor                show an example book, and every call on it
   winavulor check BOOK     load a book file, and tell what it holds or why it is refused
@@ -19,25 +20,36 @@ pub const USAGE: &str = "usage:
                            to the new file PART, and tell what is kept
   winavulor run SCRIPT     perform the calls of a script, and answer each
   winavulor help           print this text
-a PILE is whole, bottom, top, top/bottom or bottom/top, from the uppermost stage down; it is bottom where none is given
+a PILE is whole, or 1 to 16 of bottom and top joined by /, from the uppermost stage down; it is bottom where none is given
 a KIND is concept, role or individual";
 
-// What is to be cut out of a book file and written to another, for which names, and through which pile.
-#[derive(Clone, Copy, Debug)]
+/// What is to be cut out of a book file and written to another, for which names, and through which pile.
+#[derive(Debug, Drop)]
 pub struct Order<'a> {
+    /// The path of the book file.
     pub book: &'a str,
+    /// The path of the file that the part goes to.
     pub part: &'a str,
-    pub pile: Pile,
+    /// The pile that is marked through.
+    pub pile: NamedPile<Test>,
+    /// The words KIND:LABEL of the names in use.
     pub names: &'a [String],
 }
 
-#[derive(Clone, Copy, Debug)]
+/// A task of the program, with the words that it is for.
+#[derive(Debug, Drop)]
 pub enum Command<'a> {
+    /// Shows the example.
     Example,
+    /// Prints the usage text.
     Help,
+    /// Tells what a book file holds.
     Check(&'a str),
+    /// Lists a book file.
     Show(&'a str),
+    /// Performs a script.
     Run(&'a str),
+    /// Cuts a part out of a book file.
     Cut(Order<'a>),
 }
 
@@ -52,6 +64,14 @@ fn has_option(words: &[String]) -> bool
     ensures { result ≡ list_any (λ w. is_option (string_bytes w)) words.now }
 {
     words.iter().any(|word| is_option(word.as_str()))
+}
+
+// Whether a word of a cut is an option, beside that for its pile.
+#[tactic(auto, using(crate::proofs::Options::any_mapped))]
+fn any_option(book: &str, part: &str, names: &[String]) -> bool
+    ensures { result ≡ any_option book.now part.now (map string_bytes names.now) }
+{
+    is_option(book) || is_option(part) || has_option(names)
 }
 
 impl<'a> Command<'a> {
@@ -75,31 +95,32 @@ impl<'a> Command<'a> {
     // A cut, from the words after the two files.
     #[tactic(auto, using(crate::proofs::Options::no_pile))]
     fn cut(book: &'a str, part: &'a str, words: &'a [String]) -> Option<Command<'a>>
-        ensures { option_map task_of result ≡ cut_task book.now part.now (map string_bytes words.now) }
+        ensures { let rest = map string_bytes words.now in
+            option_map task_of result ≡ cut_task book.now part.now rest }
     {
         match words {
             [option, pile, names @ ..] => {
                 if option.as_str() == "--pile" {
-                    Command::plain_cut(book, part, pile_of(pile.as_str())?, names)
+                    Command::plain_cut(book, part, NamedPile::from_word(pile.as_str())?, names)
                 } else {
-                    Command::plain_cut(book, part, Pile::Bottom, words)
+                    Command::plain_cut(book, part, NamedPile::single(Test::Bottom), words)
                 }
             }
-            [_] | [] => Command::plain_cut(book, part, Pile::Bottom, words),
+            [_] | [] => Command::plain_cut(book, part, NamedPile::single(Test::Bottom), words),
         }
     }
 
     // A cut through a pile; no other word of it is an option.
-    #[tactic(auto, using(crate::proofs::Options::any_mapped))]
     fn plain_cut(
         book: &'a str,
         part: &'a str,
-        pile: Pile,
+        pile: NamedPile<Test>,
         names: &'a [String],
     ) -> Option<Command<'a>>
-        ensures { option_map task_of result ≡ plain_cut book.now part.now pile (map string_bytes names.now) }
+        ensures { let words = map string_bytes names.now in
+            option_map task_of result ≡ plain_cut book.now part.now pile words }
     {
-        if is_option(book) || is_option(part) || has_option(names) {
+        if any_option(book, part, names) {
             return None;
         }
         Some(Command::Cut(Order {
@@ -131,14 +152,16 @@ impl<'a> Command<'a> {
     }
 }
 
-// Why words are no command, with the first of them. It is looked at apart from the commands, since keeping a word claims
-// memory, and reading a command does not.
+/// Why words are no command, with the word that is wrong.
 #[derive(Debug, Drop, Error)]
 pub enum UsageFault {
+    /// No command begins with this word.
     #[error("there is no command '{0}'")]
     UnknownCommand(String),
+    /// The words behind this command are not its own.
     #[error("the command '{0}' has a word too few, too many, or unknown")]
     WrongWords(String),
+    /// No pile has this word.
     #[error("there is no pile '{0}'")]
     UnknownPile(String),
 }
@@ -158,7 +181,8 @@ fn unknown_pile(words: &[String]) -> Option<&str>
 {
     match words {
         [verb, _, _, option, pile, ..] if verb.as_str() == "cut" && option.as_str() == "--pile" => {
-            pile_of(pile.as_str()).is_none().then_some(pile.as_str())
+            let named: Option<NamedPile<Test>> = NamedPile::from_word(pile.as_str());
+            named.is_none().then_some(pile.as_str())
         }
         _ => None,
     }

@@ -1,17 +1,19 @@
 // The example that is shown where no command is given: a book of a substation, and every call on it.
 ghost use Rattle.std.specs.Prelude.{◌≡◌, IfOk, map};
 ghost use Rattle.std.specs.Option.{option_map};
-ghost use Rattle.winavulor.specs.Shown.{refusal_of};
+ghost use Rattle.runs.specs.Fitting.{refusal_in};
 ghost use Rattle.terms.specs.Codes.{kind_number};
 ghost use Rattle.vocabulary.specs.Kinds.{code_of};
 ghost use Rattle.runs.specs.Steps as steps;
-ghost use Rattle.runs.specs.Steps.{standing, step_of, performing, performed};
+ghost use Rattle.runs.specs.Steps.{standing, step_of, call_turn, state_from};
 
 use crate::cut::Module;
 use crate::failure::Failure;
-use book::AxiomId;
+use book::{AxiomId, Draft};
+use locality::Test;
 use notation::{Listing, Told};
-use runs::{Answer, Call, CallFault, Outcome, Pile, State};
+use runs::{Answer, Call, CallFault, Edit, Outcome, State};
+use scripts::NamedPile;
 use std::alloc::{AllocError, Global};
 use terms::AxiomKind;
 use vocabulary::{Kind, NameId};
@@ -45,34 +47,36 @@ struct Step {
 }
 
 fn name(heap: Global, words: &'static str, kind: Kind, label: &[u8]) -> Result<Step, AllocError>
-    ensures { IfOk result (λ s. step_of s.call ≡ steps.name (code_of kind) label.now) }
+    ensures { IfOk result (λ s.
+        step_of s.call ≡ steps.change (steps.name (code_of kind) label.now)) }
 {
     let kind = u8::from(kind);
     let label = Vec::from_slice(heap, label)?;
     Ok(Step {
         words,
-        call: Call::Name { kind, label },
+        call: Call::Edit(Edit::Name { kind, label }),
     })
 }
 
 fn file(heap: Global, words: &'static str, kind: AxiomKind, body: &[u8]) -> Result<Step, AllocError>
-    ensures { IfOk result (λ s. step_of s.call ≡ steps.file (kind_number kind) body.now) }
+    ensures { IfOk result (λ s.
+        step_of s.call ≡ steps.change (steps.file (kind_number kind) body.now)) }
 {
     let kind = u16::from(kind);
     let body = Vec::from_slice(heap, body)?;
     Ok(Step {
         words,
-        call: Call::File { kind, body },
+        call: Call::Edit(Edit::File { kind, body }),
     })
 }
 
 fn load(heap: Global, words: &'static str, file: &[u8]) -> Result<Step, AllocError>
-    ensures { IfOk result (λ s. step_of s.call ≡ steps.load file.now) }
+    ensures { IfOk result (λ s. step_of s.call ≡ steps.change (steps.load file.now)) }
 {
     let file = Vec::from_slice(heap, file)?;
     Ok(Step {
         words,
-        call: Call::Load { file },
+        call: Call::Edit(Edit::Load { file }),
     })
 }
 
@@ -88,23 +92,23 @@ fn changes(heap: Global) -> Result<Vec<Step>, AllocError> {
         )?,
         Step {
             words: "lay axiom 3 aside",
-            call: Call::LayAside(AxiomId(3))
+            call: Call::Edit(Edit::LayAside(AxiomId(3)))
         },
         Step {
             words: "lay axiom 7 aside",
-            call: Call::LayAside(AxiomId(7))
+            call: Call::Edit(Edit::LayAside(AxiomId(7)))
         },
         Step {
             words: "restore axiom 7",
-            call: Call::Restore(AxiomId(7))
+            call: Call::Edit(Edit::Restore(AxiomId(7)))
         },
         Step {
             words: "seed name 1",
-            call: Call::Seed(NameId(1))
+            call: Call::Edit(Edit::Seed(NameId(1)))
         },
         Step {
             words: "unseed name 0",
-            call: Call::Unseed(NameId(0))
+            call: Call::Edit(Edit::Unseed(NameId(0)))
         },
         name(
             heap,
@@ -124,7 +128,7 @@ fn changes(heap: Global) -> Result<Vec<Step>, AllocError> {
         },
         Step {
             words: "seed name 2 of the frozen book",
-            call: Call::Seed(NameId(2))
+            call: Call::Edit(Edit::Seed(NameId(2)))
         },
         Step {
             words: "reopen the book",
@@ -136,7 +140,7 @@ fn changes(heap: Global) -> Result<Vec<Step>, AllocError> {
 
 // What a refused call has to say beyond its numbers.
 fn refusal(outcome: Outcome) -> Option<Told>
-    ensures { option_map (λ told. told.0) result ≡ refusal_of outcome }
+    ensures { option_map (λ told. told.0) result ≡ refusal_in outcome }
 {
     match outcome {
         Err(CallFault::Refused(refusal) | CallFault::LoadRefused(refusal, _)) => {
@@ -148,7 +152,8 @@ fn refusal(outcome: Outcome) -> Option<Told>
 
 // Makes the call of a step, and prints the step and its outcome.
 fn take(rt: &HostRuntime, state: State, step: Step) -> Result<State, Failure>
-    ensures { IfOk result (λ s. standing s ≡ (performing (standing state) (step_of step.call)).after) }
+    ensures { IfOk result (λ s.
+        standing s ≡ (call_turn (standing state) (step_of step.call)).state) }
 {
     let Step { words, call } = step;
     let (state, outcome) = state.perform(&call);
@@ -161,7 +166,8 @@ fn take(rt: &HostRuntime, state: State, step: Step) -> Result<State, Failure>
 }
 
 fn take_all(rt: &HostRuntime, state: State, steps: Vec<Step>) -> Result<State, Failure>
-    ensures { IfOk result (λ s. standing s ≡ performed (standing state) (map (λ step. step_of step.call) steps.items)) }
+    ensures { IfOk result (λ s.
+        standing s ≡ state_from (standing state) (map (λ step. step_of step.call) steps.items)) }
 {
     let mut state = state;
     for step in steps {
@@ -176,16 +182,15 @@ fn list(rt: &HostRuntime, state: &State) -> Result<(), Failure> {
     Ok(())
 }
 
-// The calls of a cut for Relay, which the file seeds too; what is said of Q1 alone is laid aside.
-fn cut_calls(heap: Global) -> Result<Vec<Call>, AllocError> {
+// The edits of a cut for Relay, which the file seeds too; what is said of Q1 alone is laid aside.
+fn cut_edits(heap: Global) -> Result<Vec<Edit>, AllocError> {
     let file = Vec::from_slice(heap, SUBSTATION)?;
-    let calls = vec![in heap;
-        Call::Load { file },
-        Call::Seed(NameId(0)),
-        Call::LayAside(AxiomId(5)),
-        Call::Freeze,
+    let edits = vec![in heap;
+        Edit::Load { file },
+        Edit::Seed(NameId(0)),
+        Edit::LayAside(AxiomId(5)),
     ]?;
-    Ok(calls)
+    Ok(edits)
 }
 
 // Shows every call of a draft and of a frozen book.
@@ -208,9 +213,10 @@ fn show_cut(rt: &HostRuntime) -> Result<(), Failure> {
     println!(rt;
         "\nthe module for the seeded names, through the bottom test, with axiom 5 laid aside"
     )?;
-    let calls = cut_calls(rt.alloc())?;
-    let opened = State::open(rt.alloc())?;
-    let module = Module::of(rt.alloc(), Pile::Bottom, opened, calls.as_slice())?;
+    let edits = cut_edits(rt.alloc())?;
+    let draft = Draft::open(rt.alloc())?;
+    let bottom = NamedPile::single(Test::Bottom);
+    let module = Module::of(rt.alloc(), &bottom, draft, edits.as_slice())?;
     let report = module.report(RECORDS);
     rt.print(format!(in rt.alloc(); "{report}")?)?;
     let reload = load(

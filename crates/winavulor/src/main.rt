@@ -1,5 +1,5 @@
-// The command line: it shows an example, checks and shows book files, cuts modules out of them, and performs scripts of
-// calls.
+//! The command line: it shows an example, checks and shows book files, cuts modules out of them, and performs scripts of
+//! calls.
 #![tactic(auto)]
 
 mod command;

@@ -16,8 +16,8 @@ loop-before-preserved c =
     let mid = string_bytes c.perform_line.new.answers in
     let s = standing c.loop-before.state in
     let done = subst (λ r. LineDone old mid r (line_outcome s (line_request l))) c.in-Ok-perform_line.is c.perform_line.ensures.done in
-    let on = line_goes so.0 (i + 1) l rest (Unit {0}) c.in-Ok-perform_line.after old mid s so.1 done (search (rules, c.perform_line.ensures.promise, so.1)) in
-    (on.0, on.1, λ r new later. so.2 r new (subst (λ x. LinesDone so.0 (i + 1) x old new r) (sym first) (on.2 r new later)))
+    let on = line_goes so.0 (i + 1) l rest (Unit {0}) c.in-Ok-perform_line.after old mid so.2 s so.1 done (search (rules, c.perform_line.ensures.promise, so.1, so.2)) in
+    (on.0, on.1, on.2, λ r new later. so.3 r new (subst (λ x. LinesDone so.0 (i + 1) x old new r) (sym first) (on.3 r new later)))
 
 pub returns-in-Err-perform_line : goal.returns-in-Err-perform_line
 returns-in-Err-perform_line c =
@@ -30,9 +30,9 @@ returns-in-Err-perform_line c =
     let new = string_bytes c.perform_line.new.answers in
     let s = standing c.loop-before.state in
     let done = subst (λ r. LineDone old new r (line_outcome s (line_request l))) c.in-Err-perform_line.is c.perform_line.ensures.done in
-    so.2 (Err (record { line = i + 1; halt = c.in-Err-perform_line.halt })) new (subst (λ x. LinesHalt so.0 (i + 1) x old new (i + 1) c.in-Err-perform_line.halt) (sym first) (line_ends so.0 (i + 1) l rest c.in-Err-perform_line.halt old new s so.1 done))
+    so.3 (Err (record { line = i + 1; halt = c.in-Err-perform_line.halt })) new (subst (λ x. LinesHalt so.0 (i + 1) x old new (i + 1) c.in-Err-perform_line.halt) (sym first) (line_ends so.0 (i + 1) l rest c.in-Err-perform_line.halt old new s so.1 done))
 
 pub returns : goal.returns
 returns c =
     let so = c.loop-before.invariant in
-    so.2 (Ok (tt {0})) _ (none_left so.0 (c.loop-before.before + 1) _ _ (no_line (λ x. x.now) c.args.lines.now c.loop-before.before (search (rules, arith))))
+    so.3 (Ok (tt {0})) _ (none_left so.0 (c.loop-before.before + 1) _ _ (no_line (λ x. x.now) c.args.lines.now c.loop-before.before (search (rules, arith))))

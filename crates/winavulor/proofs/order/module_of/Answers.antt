@@ -1,10 +1,11 @@
 use Rattle.std.proofs.Common.{◌≡◌, Ok, map, string_bytes, subst, sym}
 use Rattle.vocabulary.specs.Naming.{entities}
-use Rattle.book.specs.Calls.{contents}
-use Rattle.runs.specs.Stacks.{stack_of}
-use Rattle.runs.specs.Steps.{step_of}
-use Rattle.winavulor.specs.Words.{cut_calls}
-use Rattle.winavulor.proofs.Loaded.{cut_out}
+use Rattle.book.specs.Calls.{contents, vocabulary_of}
+use Rattle.extraction.specs.Marking.{lent}
+use Rattle.runs.specs.Steps.{change_of}
+use Rattle.winavulor.specs.Words.{seedings}
+use Rattle.records.proofs.Files.{all_fit}
+use Rattle.winavulor.proofs.Loaded.{calls_of_bytes, cut_out, pile_promised}
 use Rattle.winavulor.proofs.order.module_of.Goals as goal
 
 pub returns : goal.returns
@@ -12,7 +13,8 @@ returns c =
     let m = c.in_ok-module.module in
     let draft = c.in_ok-draft in
     let words = map string_bytes c.args.words.now in
-    let calls = map step_of c.as_slice.result.now in
-    let asked : cut_calls (entities c.book.result.now.names) words ≡ Ok calls = subst (λ cs. cut_calls (entities c.book.result.now.names) words ≡ Ok (map step_of cs)) (sym c.as_slice.ensures.value) c.in_ok-calls.ensures in
-    let seeds : cut_calls (contents draft.draft).names words ≡ Ok calls = subst (λ b. cut_calls (entities b.names) words ≡ Ok calls) c.book.ensures asked in
-    cut_out c.args.bytes.now draft.records words (stack_of c.args.pile) (contents draft.draft) calls (record { axioms = m.axioms; names = m.names; marking = m.marking; part = m.part.items }) m.state draft.ensures.book draft.ensures.taken seeds c.in_ok-module.ensures.cuts c.in_ok-module.ensures.part
+    let es = c.as_slice.result.now in
+    let asked : seedings (entities (vocabulary_of c.book.result.now)) words ≡ Ok (map change_of es) = subst (λ xs. seedings (entities (vocabulary_of c.book.result.now)) words ≡ Ok (map change_of xs)) (sym c.as_slice.ensures.value) c.in_ok-edits.ensures.answers in
+    let seeds : seedings (contents draft.draft).names words ≡ Ok (map change_of es) = subst (λ b. seedings (contents b).names words ≡ Ok (map change_of es)) c.book.ensures.value asked in
+    let of_bytes = calls_of_bytes c.args.bytes.now _ words (map change_of es) (all_fit c.args.bytes.now c.type_inv.bytes) seeds in
+    cut_out c.args.bytes.now draft.records words c.args.pile.now (contents draft.draft) (contents m.frozen) es (record { marks = lent m.axioms m.names; marking = m.marking; part = m.part.items }) draft.ensures.book draft.ensures.taken seeds c.in_ok-module.ensures.frozen (pile_promised c.args.pile.now _ of_bytes) c.in_ok-module.ensures.marks c.in_ok-module.ensures.part
