@@ -101,30 +101,34 @@ fn run(program: &Path, scripts: &[PathBuf]) -> io::Result<Run> {
 fn run_second(second: &Path, scripts: &[PathBuf]) -> io::Result<Vec<Run>> {
     if scripts.len() > 1 {
         let all = run(second, scripts)?;
-        if all.status == Some(0) {
+        if matches!(all.status, Some(0 | 1)) {
             return split(&all.output, scripts)
                 .ok_or_else(|| about(second, Error::other("its answers cannot be told apart")));
         }
     }
-    // One of them did not end with status 0; which one is not told.
+    // One of them did not end; which one is not told.
     scripts
         .iter()
         .map(|script| run(second, std::slice::from_ref(script)))
         .collect()
 }
 
-/// Takes answers apart at the lines `== NAME`.
+/// Takes answers apart at the lines `== STATUS NAME`.
 fn split(output: &[u8], scripts: &[PathBuf]) -> Option<Vec<Run>> {
     let mut runs: Vec<Run> = Vec::with_capacity(scripts.len());
     for line in output.split_inclusive(|&byte| byte == b'\n') {
-        match scripts.get(runs.len()) {
-            Some(next) if line == format!("== {}\n", next.display()).as_bytes() => {
+        match line.strip_prefix(b"== ") {
+            Some(head) => {
+                let next = scripts.get(runs.len())?;
+                let status = [0, 1]
+                    .into_iter()
+                    .find(|status| head == format!("{status} {}\n", next.display()).as_bytes())?;
                 runs.push(Run {
                     output: Vec::new(),
-                    status: Some(0),
+                    status: Some(status),
                 });
             }
-            _ => runs.last_mut()?.output.extend_from_slice(line),
+            None => runs.last_mut()?.output.extend_from_slice(line),
         }
     }
     (runs.len() == scripts.len()).then_some(runs)
@@ -185,8 +189,9 @@ struct Difference {
     line: usize,
 }
 
-/// How two runs of a script differ. All lines of generated scripts are calls,
-/// so the answers are in step with the lines.
+/// How two runs of a script differ. Each line of a generated script is a call,
+/// but for one at most, behind which nothing is answered; so the answers are in
+/// step with the lines.
 fn difference(script: &[String], first: &Run, second: &Run) -> Option<Difference> {
     if agree(first, second) {
         return None;

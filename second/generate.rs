@@ -6,8 +6,8 @@
 //     generate --book random|chain SIZE FILE
 //
 // The first writes COUNT scripts of 100 calls each, one a line, into DIR:
-// 00001.script, 00002.script and so on. A script depends on SEED and its own
-// number alone. The second writes a script with one call, the loading of a book
+// 00001.script, 00002.script and so on. In some of them one line is no call,
+// for its pile. A script depends on SEED and its own number alone. The second writes a script with one call, the loading of a book
 // of SIZE axioms, which is always the same.
 //
 // A small model follows which names, axioms and seeds the book has, so that
@@ -34,8 +34,9 @@ const INDIVIDUAL: u8 = 2;
 const NAME_RECORD: u16 = 1;
 const SEED_RECORD: u16 = 32;
 
-const PILES: [&str; 5] = ["whole", "bottom", "top", "top/bottom", "bottom/top"];
-const STAGED_PILES: [&str; 4] = ["bottom", "top", "top/bottom", "bottom/top"];
+const MOST_STAGES: usize = 16;
+
+const SHORT_PILES: [&str; 5] = ["whole", "bottom", "top", "top/bottom", "bottom/top"];
 
 // ------------------------------------------------------------ random numbers
 
@@ -90,6 +91,89 @@ impl Random {
             left -= weight;
         }
         unreachable!()
+    }
+}
+
+// --------------------------------------------------------------------- piles
+
+fn tests(random: &mut Random, count: usize) -> Vec<&'static str> {
+    (0..count)
+        .map(|_| random.pick(&["bottom", "top"]))
+        .collect()
+}
+
+/// A pile with a stage or more.
+fn staged_pile(random: &mut Random) -> String {
+    let stages = match random.below(20) {
+        0..=6 => 1,
+        7..=12 => 2,
+        13..=15 => 3,
+        16..=18 => random.between(4, MOST_STAGES - 1),
+        _ => MOST_STAGES,
+    };
+    tests(random, stages).join("/")
+}
+
+fn any_pile(random: &mut Random) -> String {
+    if random.percent(18) {
+        "whole".to_string()
+    } else {
+        staged_pile(random)
+    }
+}
+
+/// A word that is no pile.
+fn wrong_pile(random: &mut Random) -> String {
+    match random.below(5) {
+        0 => {
+            let stages = random.pick(&[17, 17, 17, 18, 32, 33, 255, 256, 257, 1_000]);
+            tests(random, stages).join("/")
+        }
+        1 => {
+            let stages = random.between(0, MOST_STAGES);
+            let mut tests = tests(random, stages);
+            tests.insert(random.below(stages + 1), "");
+            if stages == 0 {
+                tests.push("");
+            }
+            tests.join("/")
+        }
+        2 => {
+            let stages = random.between(1, MOST_STAGES - 1);
+            let mut tests = tests(random, stages);
+            tests.insert(random.below(stages + 1), "whole");
+            tests.join("/")
+        }
+        3 => {
+            let wrong = random.pick(&[
+                "Bottom",
+                "TOP",
+                "bot",
+                "tops",
+                "middle",
+                "0",
+                "-",
+                ".",
+                "top,bottom",
+                "bottom\\top",
+            ]);
+            let stages = random.below(4);
+            let mut tests = tests(random, stages);
+            tests.insert(random.below(stages + 1), wrong);
+            tests.join("/")
+        }
+        _ => random
+            .pick(&[
+                "Whole",
+                "wholes",
+                "whol",
+                "whole/",
+                "/whole",
+                "whole/whole",
+                "all",
+                "none",
+            ])
+            .to_string(),
     }
 }
 
@@ -1693,10 +1777,10 @@ impl Script {
     }
 
     fn any_mark(&mut self) {
-        let pile = self.random.pick(&PILES);
+        let pile = any_pile(&mut self.random);
         let axioms = self.buffer(self.model.axioms.len());
         let names = self.buffer(self.model.names.len());
-        self.call_mark(pile, axioms, names);
+        self.call_mark(&pile, axioms, names);
     }
 
     fn any_write(&mut self) {
@@ -1706,22 +1790,24 @@ impl Script {
             }
             self.long_writes_left -= 1;
         }
-        let pile = self.random.pick(&PILES);
+        let pile = any_pile(&mut self.random);
         let axioms = self.buffer(self.model.axioms.len());
         let names = self.buffer(self.model.names.len());
-        let part = self.part_buffer(pile);
-        self.call_write(pile, axioms, names, part);
+        let part = self.part_buffer(&pile);
+        self.call_write(&pile, axioms, names, part);
     }
 
     fn good_mark(&mut self, pile: &str) {
         self.call_mark(pile, self.model.axioms.len(), self.model.names.len());
     }
 
-    /// Marks by all piles.
+    /// Marks by all short piles and by one more.
     fn mark_all(&mut self) {
-        for pile in PILES {
+        for pile in SHORT_PILES {
             self.good_mark(pile);
         }
+        let pile = staged_pile(&mut self.random);
+        self.good_mark(&pile);
     }
 
     /// With few axioms in force, writes with all lengths a part may have and
@@ -1751,10 +1837,10 @@ impl Script {
             .collect();
         lengths.sort_unstable();
         lengths.dedup();
-        let pile = self.random.pick(&STAGED_PILES);
+        let pile = staged_pile(&mut self.random);
         for length in lengths {
             self.call_write(
-                pile,
+                &pile,
                 self.model.axioms.len(),
                 self.model.names.len(),
                 length,
@@ -1975,6 +2061,25 @@ impl Script {
         }
     }
 
+    /// Puts a call whose pile is none in the place of a line, mostly of one of
+    /// the last ones.
+    fn spoil_line(&mut self) {
+        let mut lines: Vec<&str> = self.text.lines().collect();
+        let place = if self.random.percent(20) {
+            self.random.below(lines.len())
+        } else {
+            lines.len() - 1 - self.random.below(10)
+        };
+        let pile = wrong_pile(&mut self.random);
+        let wrong = if self.random.percent(50) {
+            format!("mark {pile} 20 20")
+        } else {
+            format!("write {pile} 20 20 200")
+        };
+        lines[place] = &wrong;
+        self.text = lines.join("\n") + "\n";
+    }
+
     fn generate(mut self) -> String {
         let beginnings: [(usize, fn(&mut Script)); 5] = [
             (24, Script::small_book_by_calls),
@@ -1985,6 +2090,9 @@ impl Script {
         ];
         self.random.weighted(&beginnings)(&mut self);
         self.go_on();
+        if self.random.percent(8) {
+            self.spoil_line();
+        }
         self.text
     }
 }

@@ -6,7 +6,8 @@
 //     second run SCRIPT...
 //
 // Each script is performed from a fresh empty draft. If more than one is given,
-// a line `== NAME` stands before the answers of each.
+// a line `== STATUS NAME` stands before the answers of each: 1 if the script has
+// a line that is no call, and 0 if not.
 
 use std::collections::HashSet;
 use std::io::{self, BufWriter, Write};
@@ -18,6 +19,7 @@ const MOST_BODY_BYTES: usize = 512;
 const MOST_BYTES_OF_BODIES: usize = 32_768;
 const MOST_LABEL_BYTES: usize = 32;
 const MOST_NESTING: usize = 24;
+const MOST_STAGES: usize = 16;
 
 // ---------------------------------------------------------------- vocabulary
 
@@ -629,7 +631,7 @@ struct Extraction {
 
 /// A pile: the tests of its stages, from the uppermost down to the whole
 /// extractor.
-type Pile = &'static [LocalityTest];
+type Pile = Vec<LocalityTest>;
 
 fn extract(book: &Book, stages: &[LocalityTest]) -> Extraction {
     match stages.split_first() {
@@ -696,7 +698,7 @@ struct Marking {
 /// Extracts for marking and writing, or refuses.
 fn extract_for_buffers(
     book: &Book,
-    pile: Pile,
+    pile: &[LocalityTest],
     axiom_buffer: &[u8],
     name_buffer: &[u8],
 ) -> Result<Extraction, Refusal> {
@@ -711,7 +713,7 @@ fn extract_for_buffers(
 
 fn mark(
     book: &Book,
-    pile: Pile,
+    pile: &[LocalityTest],
     axiom_buffer: &mut [u8],
     name_buffer: &mut [u8],
 ) -> Result<Marking, Refusal> {
@@ -729,7 +731,7 @@ fn mark(
 
 fn write(
     book: &Book,
-    pile: Pile,
+    pile: &[LocalityTest],
     axiom_buffer: &mut [u8],
     name_buffer: &mut [u8],
     part_buffer: &mut [u8],
@@ -875,7 +877,7 @@ fn perform(book: &mut Book, call: &Call) -> String {
     }
 }
 
-fn perform_mark(book: &Book, pile: Pile, axiom_bytes: u16, name_bytes: u16) -> String {
+fn perform_mark(book: &Book, pile: &[LocalityTest], axiom_bytes: u16, name_bytes: u16) -> String {
     let mut axioms = new_buffer(axiom_bytes);
     let mut names = new_buffer(name_bytes);
     match mark(book, pile, &mut axioms, &mut names) {
@@ -894,7 +896,7 @@ fn perform_mark(book: &Book, pile: Pile, axiom_bytes: u16, name_bytes: u16) -> S
 
 fn perform_write(
     book: &Book,
-    pile: Pile,
+    pile: &[LocalityTest],
     axiom_bytes: u16,
     name_bytes: u16,
     part_bytes: u16,
@@ -1005,14 +1007,20 @@ fn parse_call(line: &[u8]) -> Option<Call> {
     Some(call)
 }
 
+/// `whole`, or 1 to 16 tests joined by `/`.
 fn pile(word: &[u8]) -> Option<Pile> {
-    use LocalityTest::{Bottom, Top};
+    if word == b"whole" {
+        return Some(Vec::new());
+    }
+    let tests = word.split(|&byte| byte == b'/').map(locality_test);
+    let pile = tests.collect::<Option<Pile>>()?;
+    (pile.len() <= MOST_STAGES).then_some(pile)
+}
+
+fn locality_test(word: &[u8]) -> Option<LocalityTest> {
     match word {
-        b"whole" => Some(&[]),
-        b"bottom" => Some(&[Bottom]),
-        b"top" => Some(&[Top]),
-        b"top/bottom" => Some(&[Top, Bottom]),
-        b"bottom/top" => Some(&[Bottom, Top]),
+        b"bottom" => Some(LocalityTest::Bottom),
+        b"top" => Some(LocalityTest::Top),
         _ => None,
     }
 }
@@ -1077,10 +1085,13 @@ fn run_all(scripts: &[String]) -> io::Result<bool> {
     for script in scripts {
         let text = std::fs::read(script)
             .map_err(|error| io::Error::new(error.kind(), format!("{script}: {error}")))?;
+        let mut answers = Vec::new();
+        let ended = run(&text, &mut answers)?;
         if scripts.len() > 1 {
-            writeln!(output, "== {script}")?;
+            writeln!(output, "== {} {script}", u8::from(ended.is_err()))?;
         }
-        if let Err(NoCall(line)) = run(&text, &mut output)? {
+        output.write_all(&answers)?;
+        if let Err(NoCall(line)) = ended {
             output.flush()?;
             eprintln!("second: {script}: line {line} is no call");
             all_calls = false;
@@ -1319,6 +1330,28 @@ mod tests {
     }
 
     #[test]
+    fn piles_with_a_test_more_than_once() {
+        let before = format!("{RELAYS}seed 4\naside 3\naside 5\nfreeze");
+        for (pile, expected) in [
+            (
+                "bottom/bottom".to_string(),
+                "ok 3 4 3 8 00000100010001 01000001010100",
+            ),
+            (
+                "top/top".to_string(),
+                "ok 1 3 2 4 00010000000000 00010100010000",
+            ),
+            (
+                ["bottom"; 16].join("/"),
+                "ok 3 4 3 64 00000100010001 01000001010100",
+            ),
+        ] {
+            let answer = last_answer(&before, &format!("mark {pile} 7 7"));
+            assert_eq!(answer, expected, "{pile}");
+        }
+    }
+
+    #[test]
     fn example_of_writing() {
         let before = format!("{RELAYS}seed 4\naside 3\naside 5\nfreeze");
         let part = "060001000052656c6179\
@@ -1357,9 +1390,22 @@ mod tests {
             "aside 65536",
             "aside -1",
             "aside",
-            "mark top/top 1 1",
             "mark Bottom 1 1",
+            "mark bot 1 1",
+            "mark bottom/Top 1 1",
             "mark bottom/whole 1 1",
+            "mark whole/bottom 1 1",
+            "mark whole/whole 1 1",
+            "mark / 1 1",
+            "mark /top 1 1",
+            "mark bottom/ 1 1",
+            "mark whole/ 1 1",
+            "mark bottom//top 1 1",
+            "mark bottom/ top 1 1",
+            "mark bottom\\top 1 1",
+            &format!("mark {} 1 1", ["top"; 17].join("/")),
+            &format!("mark {}/ 1 1", ["bottom"; 16].join("/")),
+            "write top/ 1 1 1",
             "mark top 1",
             "write top 1 1",
             "seed 1\t",

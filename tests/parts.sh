@@ -76,9 +76,11 @@ full_book() {
     done
 }
 
+pair=top/bottom
+four=$pair/$pair/$pair/$pair
 for book in books/substation.book books/notation.book books/locality.book; do
     again "$book"
-    for pile in bottom top top/bottom bottom/top; do
+    for pile in bottom top top/bottom bottom/top top/top bottom/top/bottom "$four/$four"; do
         cut "$book" "$work/part" --pile "$pile" && "$program" check "$work/part" >"$work/stdout" 2>"$work/stderr"
         count $? "$book: its part through $pile is not loaded"
         rm -f "$work/part"
@@ -97,6 +99,7 @@ tells parts/whole.stdout books/substation.book "$work/part" --pile whole
 tells parts/top-over-bottom.stdout books/notation.book "$work/part" --pile top/bottom role:s concept:A
 tells parts/bottom-over-top.stdout books/notation.book "$work/part" --pile bottom/top
 tells parts/top.stdout books/locality.book "$work/part" --pile top
+tells parts/sixteen.stdout books/staircase.book "$work/part" --pile "bottom/$four/$pair/$pair/$pair/top"
 refused books/badname.book "$work/part"
 refused books/cut.book "$work/part"
 refused books/empty.book "$work/part"
@@ -104,6 +107,7 @@ refused books/missing.book "$work/part"
 refused books/substation.book "$work/part" concept:Missing
 refused books/substation.book "$work/part" Relay
 refused books/substation.book "$work/part" --pile middle
+refused books/substation.book "$work/part" --pile "$four/$four/top"
 refused books/substation.book "$work/missing/part"
 refused books/substation.book --pile top
 refused books/substation.book books/substation.book
