@@ -1,5 +1,5 @@
 // Lists with a line for each item.
-ghost use Rattle.std.specs.Prelude.{ℕ, List};
+ghost use Rattle.std.specs.Prelude.{ℕ, List, Some};
 ghost use Rattle.std.specs.Fmt.{WritesOnOk};
 ghost use Rattle.notation.specs.Lists.{numbered};
 
@@ -32,4 +32,19 @@ pub(crate) fn write_lines<T, L: Lines<T>, W: fmt::Write>(
         lines.write_line(f, number, item)?;
     }
     Ok(())
+}
+
+// The items of a list, and what is written of each: shown, a line for each item.
+#[derive(Clone, Copy)]
+pub(crate) struct Listed<'a, T, L> {
+    pub(crate) lines: L,
+    pub(crate) items: &'a [T],
+}
+
+impl<T, L: Lines<T>> fmt::Display for Listed<'_, T, L> {
+    ghost output = { λ l. Some (numbered (L.Lines.line l.lines) l.items.now) };
+
+    fn fmt<W: fmt::Write>(&self, f: &mut Formatter<W>) -> fmt::Result {
+        write_lines(f, &self.lines, self.items)
+    }
 }

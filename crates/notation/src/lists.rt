@@ -15,7 +15,7 @@ ghost use Rattle.notation.specs.Lists.{
   seeded_text,
 };
 
-use crate::lines::{Lines, write_lines};
+use crate::lines::{Lines, Listed};
 use crate::shown::Shown;
 use book::{Book, Filed};
 use std::fmt;
@@ -51,11 +51,11 @@ fn force_mark(in_force: bool) -> &'static str
     if in_force { "" } else { " (laid aside)" }
 }
 
-// The names of a book, a line for each.
+// The line of a name.
 #[derive(Clone, Copy)]
-struct NameList<'a>(&'a Book);
+struct NameLine;
 
-impl Lines<Name> for NameList<'_> {
+impl Lines<Name> for NameLine {
     ghost line = { λ l n x. entity_line n (entity x) };
 
     fn write_line<W: fmt::Write>(
@@ -70,20 +70,11 @@ impl Lines<Name> for NameList<'_> {
     }
 }
 
-impl fmt::Display for NameList<'_> {
-    ghost output = { λ l. Some (numbered entity_line (contents l.0.now).names) };
-
-    #[tactic(auto, using(crate::proofs::Numbering::listing))]
-    fn fmt<W: fmt::Write>(&self, f: &mut Formatter<W>) -> fmt::Result {
-        write_lines(f, self, self.0.names().as_slice())
-    }
-}
-
-// The axioms of a book, a line for each.
+// The line of an axiom of a book.
 #[derive(Clone, Copy)]
-struct AxiomList<'a>(&'a Book);
+struct AxiomLine<'a>(&'a Book);
 
-impl Lines<Filed> for AxiomList<'_> {
+impl Lines<Filed> for AxiomLine<'_> {
     ghost line = { λ l n x.
         filing_line (entities (vocabulary_of l.0.now)) n (filing (nodes_of (terms_of l.0.now)) x) };
 
@@ -99,16 +90,6 @@ impl Lines<Filed> for AxiomList<'_> {
     }
 }
 
-impl fmt::Display for AxiomList<'_> {
-    ghost output = { λ l.
-        let b = contents l.0.now in Some (numbered (filing_line b.names) b.axioms) };
-
-    #[tactic(auto, using(crate::proofs::Numbering::listing))]
-    fn fmt<W: fmt::Write>(&self, f: &mut Formatter<W>) -> fmt::Result {
-        write_lines(f, self, self.0.axioms())
-    }
-}
-
 /// All that a book holds, as specs/Lists.antt has it: a line for each name, then a line for each axiom.
 #[derive(Clone, Copy)]
 pub struct Listing<'a>(pub &'a Book);
@@ -117,9 +98,16 @@ pub struct Listing<'a>(pub &'a Book);
 impl fmt::Display for Listing<'_> {
     ghost output = { λ l. Some (listing_text (contents l.0.now)) };
 
+    #[tactic(auto, using(crate::proofs::Numbering::listing))]
     fn fmt<W: fmt::Write>(&self, f: &mut Formatter<W>) -> fmt::Result {
-        let names = NameList(self.0);
-        let axioms = AxiomList(self.0);
+        let names = Listed {
+            lines: NameLine,
+            items: self.0.names().as_slice(),
+        };
+        let axioms = Listed {
+            lines: AxiomLine(self.0),
+            items: self.0.axioms(),
+        };
         write!(f, "names:\n{names}axioms:\n{axioms}")
     }
 }

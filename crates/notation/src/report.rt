@@ -1,14 +1,23 @@
 // What a cut kept, told to its reader.
-ghost use Rattle.std.specs.Prelude.{◌≡◌, Some};
+ghost use Rattle.std.specs.Fmt.{WritesOnOk};
+ghost use Rattle.std.specs.Prelude.{◌≡◌, Some, length};
 ghost use Rattle.vocabulary.specs.Entities.{entity};
 ghost use Rattle.vocabulary.specs.Naming.{entities};
 ghost use Rattle.terms.specs.Tables.{nodes_of};
 ghost use Rattle.book.specs.Calls.{contents, vocabulary_of, terms_of};
 ghost use Rattle.book.specs.Contents.{filing};
 ghost use Rattle.notation.specs.Lists.{numbered};
-ghost use Rattle.notation.specs.Marks.{is_marked, signature_line, drawn_line, kept_line};
+ghost use Rattle.notation.specs.Marks.{
+  is_marked,
+  signature_line,
+  drawn_line,
+  kept_line,
+  signature_section,
+  kept_section,
+  drawn_section,
+};
 
-use crate::lines::{Lines, write_lines};
+use crate::lines::{Lines, Listed, write_lines};
 use crate::lists::Numbered;
 use crate::shown::Shown;
 use book::{Book, Filed};
@@ -24,11 +33,11 @@ fn is_marked(marks: &[u8], number: usize) -> bool
     marks.get(number).copied() == Some(1)
 }
 
-// The names of a book that are in the signature, a line for each.
+// The line of a name that is in the signature.
 #[derive(Clone, Copy)]
-struct Signature<'a>(&'a Book);
+struct SeededLine;
 
-impl Lines<Name> for Signature<'_> {
+impl Lines<Name> for SeededLine {
     ghost line = { λ s n x. signature_line n (entity x) };
 
     fn write_line<W: fmt::Write>(
@@ -45,21 +54,12 @@ impl Lines<Name> for Signature<'_> {
     }
 }
 
-impl fmt::Display for Signature<'_> {
-    ghost output = { λ s. Some (numbered signature_line (contents s.0.now).names) };
-
-    #[tactic(auto, using(crate::proofs::Numbering::listing))]
-    fn fmt<W: fmt::Write>(&self, f: &mut Formatter<W>) -> fmt::Result {
-        write_lines(f, self, self.0.names().as_slice())
-    }
-}
-
-// The names drawn in: marked, and not in the signature.
+// The line of a name that is drawn in: marked in these marks, and not in the signature.
 #[derive(Clone, Copy)]
-struct DrawnIn<'a>(&'a Book, &'a [u8]);
+struct DrawnLine<'a>(&'a [u8]);
 
-impl Lines<Name> for DrawnIn<'_> {
-    ghost line = { λ d n x. drawn_line d.1.now n (entity x) };
+impl Lines<Name> for DrawnLine<'_> {
+    ghost line = { λ d n x. drawn_line d.0.now n (entity x) };
 
     fn write_line<W: fmt::Write>(
         &self,
@@ -67,20 +67,11 @@ impl Lines<Name> for DrawnIn<'_> {
         number: usize,
         name: &Name,
     ) -> fmt::Result {
-        if name.seeded || !is_marked(self.1, number) {
+        if name.seeded || !is_marked(self.0, number) {
             return Ok(());
         }
         let entry = Numbered(number, name);
         writeln!(f, "  {entry}")
-    }
-}
-
-impl fmt::Display for DrawnIn<'_> {
-    ghost output = { λ d. Some (numbered (drawn_line d.1.now) (contents d.0.now).names) };
-
-    #[tactic(auto, using(crate::proofs::Numbering::listing))]
-    fn fmt<W: fmt::Write>(&self, f: &mut Formatter<W>) -> fmt::Result {
-        write_lines(f, self, self.0.names().as_slice())
     }
 }
 
@@ -135,6 +126,55 @@ pub struct Report<'a> {
     pub bytes: usize,
 }
 
+// How many axioms a book has.
+fn count_filed(book: &Book) -> usize
+    ensures { result ≡ length (contents book.now).axioms }
+{
+    book.axioms().len()
+}
+
+impl Report<'_> {
+    // The names in the signature.
+    #[tactic(auto, using(crate::proofs::Numbering::listing))]
+    fn write_signature<W: fmt::Write>(&self, f: &mut Formatter<W>) -> fmt::Result
+        ensures { let text = signature_section (contents self.now.book.now) in
+            WritesOnOk W.write_str_gives f.old result text f.new }
+    {
+        let names = Listed {
+            lines: SeededLine,
+            items: self.book.names().as_slice(),
+        };
+        write!(f, "signature:\n{names}")
+    }
+
+    // The axioms kept, behind their number.
+    fn write_kept<W: fmt::Write>(&self, f: &mut Formatter<W>) -> fmt::Result
+        ensures { let b = contents self.now.book.now in
+            let text = kept_section b self.now.axioms.now self.now.marking.marked in
+            WritesOnOk W.write_str_gives f.old result text f.new }
+    {
+        let marked = self.marking.marked;
+        let filed = count_filed(self.book);
+        let kept = Kept(self.book, self.axioms);
+        write!(f, "axioms kept: {marked} of {filed}\n{kept}")
+    }
+
+    // The names drawn in, behind their number.
+    #[tactic(auto, using(crate::proofs::Numbering::listing))]
+    fn write_drawn<W: fmt::Write>(&self, f: &mut Formatter<W>) -> fmt::Result
+        ensures { let b = contents self.now.book.now in
+            let text = drawn_section b self.now.names.now self.now.marking.drawn_in in
+            WritesOnOk W.write_str_gives f.old result text f.new }
+    {
+        let drawn = self.marking.drawn_in;
+        let names = Listed {
+            lines: DrawnLine(self.names),
+            items: self.book.names().as_slice(),
+        };
+        write!(f, "names drawn in: {drawn}\n{names}")
+    }
+}
+
 /// The report of a cut, as specs/Reports.antt has it.
 impl fmt::Display for Report<'_> {
     ghost use Rattle.notation.specs.Reports.{summary_of, summary_text};
@@ -143,16 +183,10 @@ impl fmt::Display for Report<'_> {
 
     fn fmt<W: fmt::Write>(&self, f: &mut Formatter<W>) -> fmt::Result {
         let records = self.records;
-        let signature = Signature(self.book);
         writeln!(f, "records read: {records}")?;
-        write!(f, "signature:\n{signature}")?;
-        let marked = self.marking.marked;
-        let filed = self.book.axioms().len();
-        let kept = Kept(self.book, self.axioms);
-        write!(f, "axioms kept: {marked} of {filed}\n{kept}")?;
-        let drawn = self.marking.drawn_in;
-        let names = DrawnIn(self.book, self.names);
-        write!(f, "names drawn in: {drawn}\n{names}")?;
+        self.write_signature(f)?;
+        self.write_kept(f)?;
+        self.write_drawn(f)?;
         let rounds = self.marking.rounds;
         let bytes = self.bytes;
         writeln!(f, "rounds: {rounds}\nbytes written: {bytes}")

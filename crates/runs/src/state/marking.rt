@@ -1,6 +1,8 @@
-ghost use Rattle.std.specs.Prelude.{List};
+ghost use Rattle.std.specs.Prelude.{List, IfSome};
+ghost use Rattle.refusals.specs.Choice.{Judged, refusal_of};
 ghost use Rattle.refusals.specs.Turns.{Gives};
-ghost use Rattle.extraction.specs.Marking.{lent};
+ghost use Rattle.extraction.specs.Fitting.{MarkingFits};
+ghost use Rattle.extraction.specs.Marking.{lent, mark_refusal};
 ghost use Rattle.runs.specs.Promise.{AreOfBytes, BookPromise, Promise};
 ghost use Rattle.runs.specs.Resting.{marking_if_frozen};
 ghost use Rattle.runs.specs.Steps.{Step, standing};
@@ -23,6 +25,9 @@ impl State {
             let s = standing self.now in
             let turn = marking_if_frozen (E.Extractor.extraction pile.now) s before in
             Gives after result turn }
+        ensures law { let fits =
+            MarkingFits (standing self.now).book (lent axioms.old names.old) in
+            IfSome result (λ r. Judged fits (refusal_of mark_refusal r)) }
         ensures promise { (cs : List Step) → AreOfBytes cs →
             Promise cs (E.Extractor.extraction pile.now) }
         ensures book { let b = (standing self.now).book in

@@ -1,5 +1,8 @@
-ghost use Rattle.std.specs.Prelude.{List};
+ghost use Rattle.std.specs.Prelude.{List, IfSome};
+ghost use Rattle.refusals.specs.Choice.{Judged, refusal_of};
 ghost use Rattle.refusals.specs.Turns.{Gives};
+ghost use Rattle.extraction.specs.Marking.{mark_refusal};
+ghost use Rattle.part.specs.Fitting.{WritingFits};
 ghost use Rattle.part.specs.Writing.{lent_for_part};
 ghost use Rattle.runs.specs.Promise.{AreOfBytes, BookPromise, Promise};
 ghost use Rattle.runs.specs.Resting.{writing_if_frozen};
@@ -25,6 +28,10 @@ impl State {
             let s = standing self.now in
             let turn = writing_if_frozen (E.Extractor.extraction pile.now) s before in
             Gives after result turn }
+        ensures law { let b = (standing self.now).book in
+            let kept = (E.Extractor.extraction pile.now b).kept in
+            let fits = WritingFits b kept (lent_for_part axioms.old names.old part.old) in
+            IfSome result (λ r. Judged fits (refusal_of mark_refusal r)) }
         ensures promise { (cs : List Step) → AreOfBytes cs →
             Promise cs (E.Extractor.extraction pile.now) }
         ensures book { let b = (standing self.now).book in
