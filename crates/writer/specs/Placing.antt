@@ -18,7 +18,12 @@ pub record Wrote (bytes : List ℕ) (before : List ℕ) (at : ℕ) (r : Option �
   pub answer :
       r ≡ (if nat_le (at + length bytes) (length before) then Some (at + length bytes) else None)
 
--- an axiom was written; with any names by which it is well formed, its bytes are read back as the same axiom
+-- with any names by which an axiom is well formed, its bytes are read back as the same axiom
+abbrev pub IsReadBack : Rule → Type 0
+IsReadBack r =
+    (names : List Entity) → well_formed names r ≡ true → read_axiom (body_bytes r) names (rule_kind r) ≡ got r (length (body_bytes r))
+
+-- an axiom was written, and is read back
 pub record Writes (r : Rule) (before : List ℕ) (at : ℕ) (answer : Option ℕ) (after : List ℕ) : Type 0 where
   pub wrote : Wrote (body_bytes r) before at answer after
-  pub back : (names : List Entity) → well_formed names r ≡ true → read_axiom (body_bytes r) names (rule_kind r) ≡ got r (length (body_bytes r))
+  pub back : IsReadBack r

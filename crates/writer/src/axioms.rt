@@ -2,7 +2,7 @@ ghost use Rattle.std.specs.Prelude.{◌≡◌, [], ◌∷◌};
 ghost use Rattle.terms.specs.Forms.{form, meaning, rule};
 ghost use Rattle.terms.specs.Tables.{nodes_of};
 ghost use Rattle.terms.specs.Writing.{role_bytes, term_bytes, body_bytes};
-ghost use Rattle.writer.specs.Placing.{Writes};
+ghost use Rattle.writer.specs.Placing.{IsReadBack, Writes};
 
 use crate::sink::{Cursor, Sink};
 use terms::{Axiom, Code, Direction, MOST_LEVELS, RoleItem, Term, TermId, Terms};
@@ -19,10 +19,13 @@ fn put_role<S: Sink>(sink: &mut S, item: RoleItem)
     sink.put_number(role.0);
 }
 
-// A term, down to a number of levels.
+// A term, down to a number of levels; of what a full sink has no room for, nothing is gone through.
 fn put_term<S: Sink>(sink: &mut S, terms: &Terms, id: TermId, levels: u8)
     ensures { S.takes sink.old (term_bytes (form levels (nodes_of terms.now) id)) sink.new }
 {
+    if sink.is_full() {
+        return;
+    }
     if levels == 0 {
         sink.put(u8::from(Code::Nothing));
         return;
@@ -68,9 +71,12 @@ fn put_whole<S: Sink>(sink: &mut S, terms: &Terms, id: TermId)
     put_term(sink, terms, id, MOST_LEVELS);
 }
 
-/// Puts the body of an axiom, whose terms lie in a table, into a sink. Its bytes are those of `specs/Writing` of terms.
+/// Puts the body of an axiom, whose terms lie in a table, into a sink. Its bytes are those of `specs/Writing` of terms, and
+/// are read back as `specs/Placing` says.
+#[tactic(auto, using(terms::proofs::ReadBack::read_back))]
 pub fn put_axiom<S: Sink>(sink: &mut S, terms: &Terms, axiom: Axiom)
-    ensures { S.takes sink.old (body_bytes (rule (nodes_of terms.now) «axiom»)) sink.new }
+    ensures bytes { S.takes sink.old (body_bytes (rule (nodes_of terms.now) «axiom»)) sink.new }
+    ensures back { IsReadBack (rule (nodes_of terms.now) «axiom») }
 {
     match axiom {
         Axiom::Inclusion(lower, upper) => {

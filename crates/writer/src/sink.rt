@@ -1,4 +1,4 @@
-ghost use Rattle.std.specs.Prelude.{◌≡◌, ℕ, List, [], ◌∷◌, ◌++◌};
+ghost use Rattle.std.specs.Prelude.{◌≡◌, ℕ, true, false, List, [], ◌∷◌, ◌++◌, length};
 ghost use Rattle.terms.specs.Numbers.{two_bytes};
 ghost use Rattle.writer.specs.Sinks.{Took, Counted};
 ghost use Rattle.writer.specs.lemmas.Sinks.{took_nothing, took_more, counted_nothing, counted_more};
@@ -13,6 +13,31 @@ pub trait Sink {
     fn put(&mut self, byte: u8)
         ensures { takes self.old (byte ∷ []) self.new };
 
+    /// Whether no byte makes a difference any more, so that what puts many may stop.
+    fn is_full(&self) -> bool
+        ensures { result ≡ true → (bytes : List ℕ) → takes self.now bytes self.now }
+    {
+        false
+    }
+
+    /// Takes so many bytes by their count alone, and answers true, if they make no other difference; else takes none, and
+    /// answers false.
+    fn put_count(&mut self, count: usize) -> bool
+        ensures taken { result ≡ true → (bytes : List ℕ) → length bytes ≡ count →
+            takes self.old bytes self.new }
+        ensures left { result ≡ false → self.new ≡ self.old }
+    {
+        false
+    }
+
+    /// Takes bytes in their order at once, and answers true, if it can; else takes none, and answers false.
+    fn put_at_once(&mut self, bytes: &[u8]) -> bool
+        ensures taken { result ≡ true → takes self.old bytes.now self.new }
+        ensures left { result ≡ false → self.new ≡ self.old }
+    {
+        self.put_count(bytes.len())
+    }
+
     // no bytes change nothing
     ghost nothing: { (s : Self) → takes s [] s };
 
@@ -24,6 +49,9 @@ pub trait Sink {
     final fn put_all(&mut self, bytes: &[u8])
         ensures { takes self.old bytes.now self.new }
     {
+        if self.put_at_once(bytes) {
+            return;
+        }
         for byte in bytes {
             self.put(*byte);
         }
@@ -65,6 +93,23 @@ impl Sink for Cursor<'_> {
             self.at = None;
         }
     }
+
+    fn put_at_once(&mut self, bytes: &[u8]) -> bool {
+        let Some(at) = self.at else {
+            return true;
+        };
+        if at > self.out.len() || bytes.len() > self.out.len() - at {
+            return false;
+        }
+        let end = at + bytes.len();
+        self.out[at..end].copy_from_slice(bytes);
+        self.at = Some(end);
+        true
+    }
+
+    fn is_full(&self) -> bool {
+        self.at.is_none()
+    }
 }
 
 /// How many bytes there were.
@@ -84,5 +129,10 @@ impl Sink for Length {
 
     fn put(&mut self, _byte: u8) {
         self.bytes = self.bytes.saturating_add(1);
+    }
+
+    fn put_count(&mut self, count: usize) -> bool {
+        self.bytes = self.bytes.saturating_add(count);
+        true
     }
 }
