@@ -1,7 +1,6 @@
 -- Loading: each record that was taken did what its call does.
-use Rattle.std.proofs.Common.{◌≡◌, ℕ, zero, suc, ◌≤◌, Bool, true, false, cond, eqb, List, [], ◌∷◌, ◌++◌, length, take, drop, get_or, Some, Ok, Err, Result, sym, refl, ap, ◌∙◌, subst, arith, append-nil, length-append}
+use Rattle.std.proofs.Common.{◌≡◌, ℕ, zero, suc, ◌+◌, ◌≤◌, Bool, true, false, cond, eqb, List, [], ◌∷◌, length, take, drop, get_or, Some, None, Ok, Err, Option, Result, sym, refl, ap, ◌∙◌, subst, arith}
 use Rattle.std.proofs.lemmas.Bool.{cond-true, cond-false, le-ltb}
-use Rattle.std.proofs.lemmas.List.{append_assoc}
 use Rattle.refusals.specs.Turns.{Turn, accepted_turn, refused_turn}
 use Rattle.terms.specs.declared.«axiom».AxiomKind.{AxiomKind}
 use Rattle.terms.specs.declared.«axiom».AxiomKind.TheVariants.{Inclusion, Equivalence, RoleInclusion, Transitive, Functional, ConceptAssertion, RoleAssertion}
@@ -10,16 +9,17 @@ use Rattle.terms.specs.Numbers.{number_of, number_at}
 use Rattle.codec.specs.Bodies.{longest_body}
 use Rattle.book.specs.Contents.{Contents}
 use Rattle.book.specs.Calls.{blank, naming_call, seeding_call}
+use Rattle.records.specs.declared.fault.RecordFault.{RecordFault}
+use Rattle.records.specs.declared.fault.RecordFault.TheVariants.{CutShort}
 use Rattle.records.specs.declared.kind.RecordKind.{RecordKind}
 use Rattle.records.specs.declared.kind.RecordKind.TheVariants as Kind'
-use Rattle.records.specs.Files.{Entry, record_bytes, file_bytes, after_entry, entries_from, entries_of}
+use Rattle.records.specs.Files.{Entry, record_length, first_record, after_entry, entries_from, entries_of}
 use Rattle.records.specs.Kinds.{name_kind, seed_kind, record_number}
-use Rattle.records.specs.Loading.{loads, loading}
-use Rattle.records.specs.Stops.{Stop, not_blank, at_record}
-use Rattle.records.specs.Taking.{IsNaming, IsFiling, IsSeeding, IsAskedCall, IsTaken, AreTaken}
-use Rattle.records.proofs.Files.{first_record-record_bytes, drop-record_bytes, records_few}
-use Rattle.records.proofs.Law.{Comes, loads_come}
-use Rattle.records.specs.Files.{all_bytes}
+use Rattle.records.specs.Loading.{Loaded, record_turn, after_turn, after_record, loads, loading}
+use Rattle.records.specs.Stops.{not_blank, at_record}
+use Rattle.records.specs.Taking.{IsNaming, IsFiling, IsSeeding, IsAskedCall, IsTaken}
+use Rattle.records.proofs.Asked.{taken_from}
+use Rattle.records.proofs.Near.{record_near}
 use Rattle.part.proofs.Answered.{filed_as}
 use Rattle.part.proofs.Ordered.{kind_apart}
 use Rattle.runs.specs.Steps.{Standing, draft}
@@ -70,51 +70,54 @@ module _ {past : List Event} {b c : Contents} (e : Entry) (t : TellsDraft past b
           (sym (cond-false _ _ _ (ap (λ n. eqb n name_kind) at ∙ (kind_apart k).0) ∙ cond-false _ _ _ (ap (λ n. eqb n seed_kind) at ∙ (kind_apart k).1)))
           (axiom_told k at is.short call)
 
--- records one behind the other
-records_told : (past : List Event) {b c : Contents} (es : List Entry) → TellsDraft past b → AreTaken b es c → TellsDraft (after_records past es) c
-records_told past [] t are = subst (TellsDraft past) are t
-records_told past (e ∷ es) t are = records_told (after_record_event past e) es (record_told e t are.1) are.2
-
 -- ---- a file
 
--- the first records of a file that begins with them
-entries_begin : (most : ℕ) (es : List Entry) (rest : List ℕ) → length es ≤ most → take (length es) (entries_from most (file_bytes es ++ rest)) ≡ es
-entries_begin most [] rest h = refl
-entries_begin zero (e ∷ es) rest h = absurd (omega arith)
-entries_begin (suc most) (e ∷ es) rest h =
-    let more = file_bytes es ++ rest in
-    ap (λ l. take (suc (length es)) (entries_from (suc most) l)) (append_assoc (record_bytes e) (file_bytes es) rest) ∙
-    ap (λ o. take (suc (length es)) (after_entry (entries_from most) (record_bytes e ++ more) o)) (first_record-record_bytes e more) ∙
-    ap (λ l. e ∷ take (length es) (entries_from most l)) (drop-record_bytes e more) ∙
-    ap (λ l. e ∷ l) (entries_begin most es rest (omega arith))
+-- so many of these records were taken, and they tell what the loading leaves
+record Comes (entries : List Entry) (past : List Event) (taken : ℕ) (turn : Loaded) : Type 0 where
+  more : ℕ
+  count : taken_count turn.answer ≡ taken + more
+  tells : TellsDraft (after_records past (take more entries)) turn.state
 
--- so many records of a file as were taken
-records_taken : (bytes : List ℕ) (es : List Entry) (rest : List ℕ) (n : ℕ) → bytes ≡ file_bytes es ++ rest → n ≡ length es → take n (entries_of bytes) ≡ es
-records_taken bytes es rest n splits count =
-    let few : length es ≤ length bytes = omega (arith, records_few es, ap length splits, length-append (file_bytes es) rest) in
-    ap (λ m. take m (entries_of bytes)) count ∙ ap (λ l. take (length es) (entries_from (length bytes) l)) splits ∙ entries_begin (length bytes) es rest few
+-- what loading any bytes comes to, whatever was taken before
+abbrev AllCome : ℕ → Type 0
+AllCome most = (bytes : List ℕ) (b : Contents) (at taken : ℕ) (past : List Event) → TellsDraft past b → Comes (entries_from most bytes) past taken (loads most bytes b at taken)
 
-module _ {past : List Event} {b : Contents} (t : TellsDraft past b) (bytes : List ℕ) where
-  abbrev Told : Result ℕ Stop → Contents → Type 0
-  Told r c = TellsDraft (after_records past (take (taken_count r) (entries_of bytes))) c
+module _ (most : ℕ) (later_come : AllCome most) (bytes : List ℕ) (b : Contents) (at taken : ℕ) (past : List Event) (t : TellsDraft past b) where
+  -- none was taken
+  none_comes : (entries : List Entry) (fault : RecordFault) (c : Contents) → c ≡ b → Comes entries past taken (refused_turn c (at_record at fault taken))
+  none_comes entries fault c same = record { more = 0; count = omega arith; tells = subst (TellsDraft past) (sym same) t }
 
-  -- records that begin the file
-  begin_told : (c : Contents) (es : List Entry) (rest : List ℕ) (n : ℕ) → bytes ≡ file_bytes es ++ rest → n ≡ length es → AreTaken b es c → TellsDraft (after_records past (take n (entries_of bytes))) c
-  begin_told c es rest n splits count are =
-      subst (λ l. TellsDraft (after_records past l) c) (sym (records_taken bytes es rest n splits count)) (records_told past es t are)
+  -- the first was taken, or is refused
+  turn_comes : (e : Entry) (r : Result (Unit {0}) RecordFault) → (record_turn b e).answer ≡ r → Comes (e ∷ entries_from most (drop (record_length e) bytes)) past taken (after_turn (λ c. loads most (drop (record_length e) bytes) c (at + record_length e)) at taken (record_turn b e).state r)
+  turn_comes e (Err fault) is = none_comes _ fault _ ((record_near at b e).same fault is)
+  turn_comes e (Ok u) is =
+      let m = (record_turn b e).state in
+      let accepted : record_turn b e ≡ accepted_turn m tt = ap (λ a. record { state = m; answer = a }) is in
+      let c = later_come (drop (record_length e) bytes) m (at + record_length e) (taken + 1) (after_record_event past e) (record_told e t (taken_from b m e accepted)) in
+      record { more = suc c.more; count = omega (arith, c.count); tells = c.tells }
 
-  -- all of it was taken, or some of it
-  came_told : (r : Result ℕ Stop) (c : Contents) → Comes b bytes 0 0 c r → Told r c
-  came_told (Ok n) c k = begin_told c k.entries [] n (k.whole ∙ sym (append-nil (file_bytes k.entries))) (omega (arith, k.count)) k.are
-  came_told (Err (at_record at fault n)) c k = begin_told c k.entries k.rest n k.splits (omega (arith, k.count)) k.are
-  came_told (Err not_blank) c k = absurd k
+  -- or it is cut short
+  record_comes : (o : Option Entry) → Comes (after_entry (entries_from most) bytes o) past taken (after_record (loads most) bytes b at taken o)
+  record_comes None = none_comes _ CutShort _ refl
+  record_comes (Some e) = turn_comes e (record_turn b e).answer refl
+
+loads_come : (most : ℕ) → AllCome most
+loads_come zero bytes b at taken past t = record { more = 0; count = omega arith; tells = t }
+loads_come (suc most) [] b at taken past t = record { more = 0; count = omega arith; tells = t }
+loads_come (suc most) (x ∷ l) b at taken past t = record_comes most (loads_come most) (x ∷ l) b at taken past t (first_record (x ∷ l))
 
 -- the whole loading; a book with something in it takes no record
-pub loading_told : {past : List Event} {b : Contents} → TellsDraft past b → (bytes : List ℕ) → all_bytes bytes ≡ true → TellsDraft (after_loading past bytes) (loading b bytes).state
+pub loading_told : {past : List Event} {b : Contents} → TellsDraft past b → (bytes : List ℕ) → TellsDraft (after_loading past bytes) (loading b bytes).state
 unfolding loading
-loading_told {past} {b} t bytes all =
-    subst (λ (x : Standing). Told t bytes (loading x.book bytes).answer (loading b bytes).state) t.agrees (go (blank b))
+loading_told {past} {b} t bytes =
+    subst (λ (x : Standing). TellsDraft (after_records past (take (taken_count (loading x.book bytes).answer) (entries_of bytes))) (loading b bytes).state) t.agrees (go (blank b))
   where
-    go : (empty : Bool) → Told t bytes (Turn.answer (cond empty (loads (length bytes) bytes b 0 0) (refused_turn b not_blank))) (Turn.state (cond empty (loads (length bytes) bytes b 0 0) (refused_turn b not_blank)))
-    go true = came_told t bytes (loads (length bytes) bytes b 0 0).answer (loads (length bytes) bytes b 0 0).state (loads_come (length bytes) bytes all (omega arith) b 0 0)
+    Says : Loaded → Type 0
+    Says turn = TellsDraft (after_records past (take (taken_count turn.answer) (entries_of bytes))) turn.state
+
+    go : (empty : Bool) → Says (cond empty (loads (length bytes) bytes b 0 0) (refused_turn b not_blank))
+    go true =
+        let c = loads_come (length bytes) bytes b 0 0 past t in
+        let all : taken_count (loads (length bytes) bytes b 0 0).answer ≡ c.more = omega (arith, c.count) in
+        subst (λ n. TellsDraft (after_records past (take n (entries_of bytes))) (loads (length bytes) bytes b 0 0).state) (sym all) c.tells
     go false = t

@@ -1,6 +1,6 @@
 -- What is promised of a list of calls on an empty draft, whichever they are, and of an extractor on the book then. It
 -- mentions no buffer and no answer, so marking, writing and what else is done with a book cite it.
-use Rattle.std.specs.Prelude.{◌≡◌, Bool, true, List}
+use Rattle.std.specs.Prelude.{◌≡◌, Bool, true, List, ◌++◌}
 use Rattle.std.specs.List.{list_all}
 use Rattle.book.specs.Contents.{Contents}
 use Rattle.book.specs.Proper.{Proper}
@@ -9,7 +9,7 @@ use Rattle.extraction.specs.Extractors.{Meaning}
 use Rattle.records.specs.Files.{all_bytes}
 use Rattle.part.specs.Writing.{ReadBack, WrittenAgain}
 use Rattle.runs.specs.History.{book_after, history, standing_after}
-use Rattle.runs.specs.Steps.{Step, change, file, load, state_after}
+use Rattle.runs.specs.Steps.{Step, Standing, change, file, load, state_after, state_from}
 
 -- a body that is filed and a file that is loaded are bytes
 abbrev pub is_of_bytes : Step → Bool
@@ -40,3 +40,12 @@ pub record Promise (cs : List Step) (x : Contents → Extraction) : Type 0 where
   pub stands : state_after cs ≡ standing_after (history cs)
   -- and the book that follows keeps its promise
   pub keeps : BookPromise (book_after (history cs)) (x (book_after (history cs)))
+
+-- the promise holds of every list of calls that leads to a book that stands so
+abbrev pub LedTo : Standing → (Contents → Extraction) → Type 0
+LedTo s x = (cs : List Step) → s ≡ state_after cs → Promise cs x
+
+-- and of every such list with more calls behind it, which leads to where these lead from there
+abbrev pub LedThrough : Standing → List Step → (Contents → Extraction) → Type 0
+LedThrough s more x =
+    (cs : List Step) → s ≡ state_after cs → (state_from s more ≡ state_after (cs ++ more)) × Promise (cs ++ more) x

@@ -7,4 +7,4 @@ mod state;
 
 pub use call::{Call, Edit};
 pub use outcome::{Answer, CallFault, Done, Outcome};
-pub use state::{State, freeze_after};
+pub use state::{Cut, State, freeze_after};

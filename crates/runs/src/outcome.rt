@@ -125,8 +125,8 @@ impl fmt::Display for Answer {
 
     fn fmt<W: fmt::Write>(&self, f: &mut fmt::Formatter<W>) -> fmt::Result {
         match self.0 {
-            Ok(done) => write!(f, "{done}"),
-            Err(fault) => write!(f, "{fault}"),
+            Ok(done) => fmt::Display::fmt(&done, f),
+            Err(fault) => fmt::Display::fmt(&fault, f),
         }
     }
 }

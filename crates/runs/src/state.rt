@@ -1,10 +1,12 @@
 use book::{Draft, Frozen};
 
+mod cutting;
 mod freezing;
 mod marking;
 mod performing;
 mod writing;
 
+pub use cutting::Cut;
 pub use freezing::freeze_after;
 
 /// A book that calls are performed on, as a draft or frozen.

@@ -4,7 +4,7 @@ ghost use Rattle.refusals.specs.Turns.{Gives};
 ghost use Rattle.extraction.specs.Marking.{mark_refusal};
 ghost use Rattle.part.specs.Fitting.{WritingFits};
 ghost use Rattle.part.specs.Writing.{lent_for_part};
-ghost use Rattle.runs.specs.Promise.{AreOfBytes, BookPromise, Promise};
+ghost use Rattle.runs.specs.Promise.{AreOfBytes, BookPromise, LedTo, Promise};
 ghost use Rattle.runs.specs.Resting.{writing_if_frozen};
 ghost use Rattle.runs.specs.Steps.{Step, standing};
 
@@ -14,8 +14,8 @@ use part::write;
 
 impl State {
     /// Writes the part of a frozen book through an extractor, as [`write`] does; the answer is `None` where the book is a
-    /// draft, whose part cannot be written (specs/Resting.antt). The promise is of every list of calls, and of the book at
-    /// hand (specs/Promise.antt).
+    /// draft, whose part cannot be written (specs/Resting.antt). The promise is of every list of calls that leads to the book
+    /// or is of bytes, and of the book at hand (specs/Promise.antt).
     pub fn write<E: Extractor>(
         &self,
         pile: &E,
@@ -34,6 +34,7 @@ impl State {
             IfSome result (λ r. Judged fits (refusal_of mark_refusal r)) }
         ensures promise { (cs : List Step) → AreOfBytes cs →
             Promise cs (E.Extractor.extraction pile.now) }
+        ensures led { LedTo (standing self.now) (E.Extractor.extraction pile.now) }
         ensures book { let b = (standing self.now).book in
             BookPromise b (E.Extractor.extraction pile.now b) }
     {
