@@ -2,5 +2,8 @@ mod Digits
 mod Pairs
 mod Performed
 mod Reading
+mod Separated
+mod Spaced
 mod Stages
+mod Turns
 mod OfBytes

@@ -1,7 +1,6 @@
 -- A script, one line after the other.
-use Rattle.std.proofs.Common.{◌≡◌, ◌<◌, ◌≤◌, ℕ, suc, ◌+◌, List, [], ◌∷◌, ◌++◌, Some, None, Ok, Err, Option, Result, append-nil, length, drop, map, get_or, ap, refl, sym, subst, ◌∙◌, arith}
-use Rattle.std.proofs.Math.Seq.{drop-cons}
-use Rattle.std.proofs.lemmas.List.{append_assoc, drop_all}
+use Rattle.std.proofs.Common.{◌≡◌, ℕ, ◌+◌, List, [], ◌∷◌, ◌++◌, Some, None, Ok, Err, Option, Result, append-nil, ap, refl, sym, subst, ◌∙◌, arith}
+use Rattle.std.proofs.lemmas.List.{append_assoc}
 use Rattle.std.specs.Result.{IfOk}
 use Rattle.runs.specs.declared.state.State.{State}
 use Rattle.runs.specs.Promise.{AreOfBytes}
@@ -95,13 +94,3 @@ module _ (cs : List Step) (number : ℕ) (l : List ℕ) (rest : List (List ℕ))
 
   pub line_ends : (h : Halt) (old new : List ℕ) (s : Standing) → s ≡ state_after cs → LineDone old new (Err h) (line_outcome s (line_request l)) → LinesHalt cs number (l ∷ rest) old new number h
   line_ends h old new s here so = ends h old new (line_request l) refl (subst (λ x. LineDone old new (Err h) (line_outcome x (line_request l))) here so)
-
--- the lines from a place on
-module _ {X : Type 0} (text : X → List ℕ) (xs : List X) (at : ℕ) where
-  pub first_line : (d : X) → at < length xs → map text (drop at xs) ≡ text (get_or xs at d) ∷ map text (drop (at + 1) xs)
-  first_line d less =
-      let one_more : suc at ≡ at + 1 = omega arith in
-      ap (map text) (drop-cons xs at d less) ∙ ap (λ n. text (get_or xs at d) ∷ map text (drop n xs)) one_more
-
-  pub no_line : length xs ≤ at → map text (drop at xs) ≡ []
-  no_line far = ap (map text) (drop_all at xs far)

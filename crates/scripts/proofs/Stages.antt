@@ -1,27 +1,15 @@
 -- Reading the words of a pile, one after the other.
-use Rattle.std.proofs.Common.{◌≡◌, ◌≢◌, ◌<◌, ◌+◌, ℕ, Bool, true, false, cond, List, [], ◌∷◌, ◌++◌, length, Some, None, Option, refl, ap, ap₂, sym, ◌∙◌, arith, nat_le, append-nil, eqb, get_or, length-append}
-use Rattle.std.proofs.lemmas.Bool.{ne_eqb, lt-leb, le-leb}
+use Rattle.std.proofs.Common.{◌≡◌, ◌<◌, ◌+◌, ℕ, Bool, true, false, cond, List, [], ◌∷◌, ◌++◌, length, Some, None, Option, refl, ap, ap₂, sym, ◌∙◌, arith, nat_le, append-nil, eqb, length-append}
+use Rattle.std.proofs.lemmas.Bool.{lt-leb, le-leb}
 use Rattle.std.proofs.lemmas.List.{append_assoc}
-use Rattle.std.proofs.lemmas.List.Elements.{All-from_get_or}
-use Rattle.std.proofs.lemmas.List.Splits.{slice_split_none, slice_split_at, length-slice_split}
-use Rattle.std.specs.List.{slice_split}
+use Rattle.std.proofs.lemmas.List.Splits.{length-slice_split}
 use Rattle.std.specs.Option.{option_map, option_and_then}
 use Rattle.scripts.specs.Piles.{tests_named}
+use Rattle.scripts.proofs.Separated.{Lacks, first_part, one_part, parts}
 
 -- the words of a text that are separated by a slash
 abbrev pub words : List ℕ → List (List ℕ)
-words w = slice_split (λ b. eqb b 47) w
-
--- no byte of it is a slash
-abbrev pub slashless : List ℕ → Type 0
-slashless w = (i : ℕ) → i < length w → get_or w i 0 ≢ 47
-
-one_word : (w : List ℕ) → slashless w → words w ≡ w ∷ []
-one_word w h = slice_split_none (λ b. eqb b 47) w (All-from_get_or (λ x. eqb x 47 ≡ false) w 0 (λ i l. ne_eqb _ 47 (h i l)))
-
-first_word : (w first rest : List ℕ) → w ≡ first ++ 47 ∷ rest → slashless first → words w ≡ first ∷ words rest
-first_word w first rest e h =
-    ap words e ∙ slice_split_at (λ b. eqb b 47) first 47 rest (All-from_get_or (λ x. eqb x 47 ≡ false) first 0 (λ i l. ne_eqb _ 47 (h i l))) refl
+words w = parts 47 w
 
 module _ {T : Type 0} (named : List ℕ → Option T) where
   -- the tests of words behind others that were read
@@ -50,21 +38,21 @@ module _ {T : Type 0} (named : List ℕ → Option T) where
       moved (Some us) = ap Some (sym (append_assoc ts (t ∷ []) us))
 
   module _ (whole : Option (List T)) (ts : List T) (w : List ℕ) (goes : whole ≡ behind ts (words w)) where
-    pub last_unknown : slashless w → named w ≡ None → None ≡ whole
-    last_unknown h e = sym (goes ∙ ap (behind ts) (one_word w h) ∙ none_from ts w [] e)
+    pub last_unknown : Lacks 47 w → named w ≡ None → None ≡ whole
+    last_unknown h e = sym (goes ∙ ap (behind ts) (one_part 47 w h) ∙ none_from ts w [] e)
 
-    pub last_known : (t : T) → length ts < 16 → slashless w → named w ≡ Some t → Some (ts ++ t ∷ []) ≡ whole
+    pub last_known : (t : T) → length ts < 16 → Lacks 47 w → named w ≡ Some t → Some (ts ++ t ∷ []) ≡ whole
     last_known t l h e =
         let room : nat_le (length (ts ++ t ∷ []) + 0) 16 ≡ true = le-leb _ _ (omega (arith, length-append ts (t ∷ []))) in
         let done : behind (ts ++ t ∷ []) [] ≡ Some (ts ++ t ∷ []) = ap (λ b. cond b (Some ((ts ++ t ∷ []) ++ [])) None) room ∙ ap Some (append-nil _) in
-        sym (goes ∙ ap (behind ts) (one_word w h) ∙ some_from ts t w [] e ∙ done)
+        sym (goes ∙ ap (behind ts) (one_part 47 w h) ∙ some_from ts t w [] e ∙ done)
 
-    module _ (first rest : List ℕ) (cut : w ≡ first ++ 47 ∷ rest) (h : slashless first) where
+    module _ (first rest : List ℕ) (cut : w ≡ first ++ 47 ∷ rest) (h : Lacks 47 first) where
       pub unknown : named first ≡ None → None ≡ whole
-      unknown e = sym (goes ∙ ap (behind ts) (first_word w first rest cut h) ∙ none_from ts first (words rest) e)
+      unknown e = sym (goes ∙ ap (behind ts) (first_part 47 w first rest cut h) ∙ none_from ts first (words rest) e)
 
       pub known : (t : T) → named first ≡ Some t → whole ≡ behind (ts ++ t ∷ []) (words rest)
-      known t e = goes ∙ ap (behind ts) (first_word w first rest cut h) ∙ some_from ts t first (words rest) e
+      known t e = goes ∙ ap (behind ts) (first_part 47 w first rest cut h) ∙ some_from ts t first (words rest) e
 
     -- where 16 tests were read, a word more is one too many
     pub too_many : length ts ≡ 16 → None ≡ whole

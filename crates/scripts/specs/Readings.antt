@@ -1,16 +1,21 @@
 -- What a reader of a line's words answers.
-use Rattle.std.specs.Prelude.{◌≡◌, ℕ, List, Some, None, Ok, Err, Option, Result, IfSome, map}
+use Rattle.std.specs.Prelude.{◌≡◌, ℕ, List, [], ◌∷◌, Some, None, Ok, Err, Option, Result, IfSome}
 use Rattle.std.specs.Bool.{⊤}
-use Rattle.std.specs.Slice.Iter.{iter_rest}
+use Rattle.std.specs.Borrow.{Bor}
 use Rattle.scripts.specs.declared.halt.Halt.{Halt}
 use Rattle.scripts.specs.declared.halt.Halt.TheVariants.{NoCall, Memory}
 use Rattle.scripts.specs.declared.halt.LineFault.{LineFault}
 use Rattle.scripts.specs.declared.words.Words.{Words}
-use Rattle.scripts.specs.Lines.{Taken, taken, stopped}
+use Rattle.scripts.specs.Lines.{Taken, taken, stopped, words}
 
 -- the words that have not been read
 abbrev pub left : Words → List (List ℕ)
-left w = map (λ x. x.now) (iter_rest w.rest)
+left w = words w.rest.now
+
+-- r is the first of these words, and w has those behind it; there is none where there is no word
+abbrev pub TakesFirst : Option (Bor (List ℕ)) → Words → List (List ℕ) → Type 0
+TakesFirst (Some x) w ws = ws ≡ x.now ∷ left w
+TakesFirst None w ws = ws ≡ []
 
 -- r is what this reading gives, and w has the words behind it
 abbrev pub Reads : {A B : Type 0} → (A → B) → Result A LineFault → Words → Taken B → Type 0

@@ -1,13 +1,13 @@
 // A line of a script, read as a request.
-ghost use Rattle.std.specs.Prelude.{◌≡◌, map};
+ghost use Rattle.std.specs.Prelude.{◌≡◌};
 ghost use Rattle.std.specs.Option.{option_map};
 ghost use Rattle.scripts.specs.Lines.{asked_of, is_comment, line_request, request_from, request_of_words};
-ghost use Rattle.scripts.specs.Readings.{AnswersInRoom, fault_in};
+ghost use Rattle.scripts.specs.Readings.{AnswersInRoom, fault_in, left};
 
 use crate::halt::{Halt, LineFault};
 use crate::piles::NamedPile;
 use crate::verb::{Verb, verb_of};
-use crate::words::{Words, words_of};
+use crate::words::Words;
 use book::AxiomId;
 use locality::Test;
 use runs::{Call, Edit};
@@ -107,18 +107,17 @@ fn is_comment(line: &str) -> bool
 }
 
 // The request of these words; none, if there is no word.
-fn request_of_words(heap: Global, words: &[&str]) -> Result<Option<Request>, Halt>
-    ensures { AnswersInRoom fault_in (option_map asked_of) result
-        (request_of_words (map (λ w. w.now) words.now)) }
+fn request_of_words(heap: Global, words: Words<'_>) -> Result<Option<Request>, Halt>
+    ensures { let asked = request_of_words (left words.entry) in
+        AnswersInRoom fault_in (option_map asked_of) result asked }
 {
-    let mut rest = words.iter();
-    let Some(first) = rest.next() else {
+    let mut words = words;
+    let Some(first) = words.next() else {
         return Ok(None);
     };
     let verb = verb_of(first).ok_or(LineFault::UnknownCall)?;
-    let mut words = Words { rest };
     let request = words.request(heap, verb)?;
-    if words.rest.next().is_some() {
+    if words.next().is_some() {
         return Err(Halt::NoCall(LineFault::TooManyWords));
     }
     Ok(Some(request))
@@ -131,6 +130,5 @@ pub(crate) fn request_of(heap: Global, line: &str) -> Result<Option<Request>, Ha
     if is_comment(line) {
         return Ok(None);
     }
-    let words = words_of(heap, line)?;
-    request_of_words(heap, words.as_slice())
+    request_of_words(heap, Words { rest: line })
 }

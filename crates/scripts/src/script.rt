@@ -1,16 +1,15 @@
 // Scripts: a call to a line, performed one after the other on a book that begins empty.
 ghost use Rattle.std.specs.Prelude.{◌≡◌, [], ◌∷◌, ◌++◌, IfOk, IfSome, List, OnErr, OnOk, map, string_bytes};
+ghost use Rattle.runs.specs.Answers.{answer_text};
 ghost use Rattle.runs.specs.Promise.{AreOfBytes};
 ghost use Rattle.runs.specs.Steps.{Step, standing};
 ghost use Rattle.scripts.specs.Lines.{asked_of, line_request};
 ghost use Rattle.scripts.specs.Replies.{reply};
 ghost use Rattle.scripts.specs.Scripts.{
   LineDone,
-  LinesDone,
   LinePromise,
   ScriptDone,
   line_outcome,
-  lines,
 };
 
 use crate::halt::{Halt, ScriptFault};
@@ -25,7 +24,19 @@ const NO_MEMORY: ScriptFault = ScriptFault {
     halt: Halt::Memory,
 };
 
-// Adds an answer, on a line of its own; where memory has run out nothing is added.
+// Adds the answer to a call, on a line of its own. The line is made in a text that is there for this, so that where memory
+// has run out nothing is added.
+fn add_answer(answers: &mut String, made: &mut String, answer: Answer) -> Result<(), AllocError>
+    ensures added { OnOk result (string_bytes answers.new
+        ≡ string_bytes answers.old ++ (answer_text answer.0 ++ 10 ∷ [])) }
+    ensures kept { OnErr result (string_bytes answers.new ≡ string_bytes answers.old) }
+{
+    made.clear();
+    writeln!(made, "{answer}")?;
+    answers.push_str(made.as_str())
+}
+
+// Adds an answer that is there already, on a line of its own; where memory has run out nothing is added.
 fn add_line(answers: &mut String, answer: String) -> Result<(), AllocError>
     ensures added { OnOk result (string_bytes answers.new
         ≡ string_bytes answers.old ++ (string_bytes answer ++ 10 ∷ [])) }
@@ -42,6 +53,7 @@ fn perform_request(
     state: State,
     request: Request,
     answers: &mut String,
+    made: &mut String,
 ) -> Result<State, AllocError>
     ensures after { IfOk result (λ s.
         standing s ≡ (reply (standing state) (asked_of request)).state) }
@@ -54,8 +66,7 @@ fn perform_request(
     match request {
         Request::Perform(call) => {
             let (state, outcome) = state.perform(&call);
-            let answer = Answer(outcome);
-            add_line(answers, format!(in heap; "{answer}")?)?;
+            add_answer(answers, made, Answer(outcome))?;
             Ok(state)
         }
         Request::Mark {
@@ -81,7 +92,13 @@ fn perform_request(
 }
 
 // Does what a line asks for, if anything, and answers the book after it.
-fn perform_line(heap: Global, state: State, line: &str, answers: &mut String) -> Result<State, Halt>
+fn perform_line(
+    heap: Global,
+    state: State,
+    line: &str,
+    answers: &mut String,
+    made: &mut String,
+) -> Result<State, Halt>
     ensures done { LineDone (string_bytes answers.old) (string_bytes answers.new) result
         (line_outcome (standing state) (line_request line.now)) }
     ensures promise { OnOk result
@@ -89,28 +106,23 @@ fn perform_line(heap: Global, state: State, line: &str, answers: &mut String) ->
 {
     match request_of(heap, line)? {
         None => Ok(state),
-        Some(request) => Ok(perform_request(heap, state, request, answers)?),
+        Some(request) => Ok(perform_request(heap, state, request, answers, made)?),
     }
 }
 
-// The lines of a script.
-fn lines_of(heap: Global, script: &str) -> Result<Vec<&str>, AllocError>
-    ensures { IfOk result (λ v. map (λ l. l.now) v.items ≡ lines script.now) }
-{
-    script.split('\n').collect(heap)
-}
-
-// Performs lines on an empty draft, one after the other, and adds an answer for each call.
-fn perform_all(heap: Global, lines: &[&str], answers: &mut String) -> Result<(), ScriptFault>
-    ensures { LinesDone [] 1 (map (λ l. l.now) lines.now) (string_bytes answers.old)
-        (string_bytes answers.new) result }
+/// Performs the calls of a script on an empty draft, one a line, and adds an answer for each on a line of its own. The first
+/// line that is no call ends it, and so does want of memory; the answers before it stay. The rules of lines and answers stand
+/// in docs/SCRIPTS.md.
+pub fn perform_lines(heap: Global, script: &str, answers: &mut String) -> Result<(), ScriptFault>
+    ensures { ScriptDone script.now (string_bytes answers.old) (string_bytes answers.new) result }
 {
     let mut state = match State::open(heap) {
         Ok(state) => state,
         Err(_) => return Err(NO_MEMORY),
     };
-    for (before, line) in lines.iter().enumerate() {
-        match perform_line(heap, state, line, answers) {
+    let mut made = String::new(heap);
+    for (before, line) in script.split('\n').enumerate() {
+        match perform_line(heap, state, line, answers, &mut made) {
             Ok(after) => state = after,
             Err(halt) => {
                 return Err(ScriptFault {
@@ -121,16 +133,4 @@ fn perform_all(heap: Global, lines: &[&str], answers: &mut String) -> Result<(),
         }
     }
     Ok(())
-}
-
-/// Performs the calls of a script on an empty draft, one a line, and adds an answer for each on a line of its own. The first
-/// line that is no call ends it, and so does want of memory; the answers before it stay. The rules of lines and answers stand
-/// in docs/SCRIPTS.md.
-pub fn perform_lines(heap: Global, script: &str, answers: &mut String) -> Result<(), ScriptFault>
-    ensures { ScriptDone script.now (string_bytes answers.old) (string_bytes answers.new) result }
-{
-    match lines_of(heap, script) {
-        Ok(lines) => perform_all(heap, lines.as_slice(), answers),
-        Err(_) => Err(NO_MEMORY),
-    }
 }

@@ -1,5 +1,5 @@
 // The words of a line, and what they stand for.
-ghost use Rattle.std.specs.Prelude.{◌≡◌, IfOk, Ok, map};
+ghost use Rattle.std.specs.Prelude.{◌≡◌, ◌≤◌, Ok, length};
 ghost use Rattle.std.specs.Char.{is_ascii_digit};
 ghost use Rattle.std.specs.List.{list_all};
 ghost use Rattle.scripts.specs.Hex.{bytes_value};
@@ -10,17 +10,7 @@ use crate::bytes::bytes_of;
 use crate::halt::{Halt, LineFault};
 use crate::piles::NamedPile;
 use locality::Test;
-use std::alloc::{AllocError, Global};
-use std::slice;
-
-// The words of a line, which have spaces between them.
-pub(crate) fn words_of(heap: Global, line: &str) -> Result<Vec<&str>, AllocError>
-    ensures { IfOk result (λ v. map (λ w. w.now) v.items ≡ words line.now) }
-{
-    line.split(' ')
-        .filter(|word| !word.is_empty())
-        .collect(heap)
-}
+use std::alloc::Global;
 
 fn has_digits_alone(word: &str) -> bool
     ensures { result ≡ list_all is_ascii_digit word.now }
@@ -55,22 +45,45 @@ fn byte_of(word: &str) -> Result<u8, LineFault>
     }
 }
 
-/// The words of a line that have not been read.
-#[derive(Drop)]
+// The same words, with no space in front.
+#[inline(never)]
+fn past_spaces(line: &str) -> &str
+    ensures same { words result.now ≡ words line.now }
+    ensures bound { length result.now ≤ length line.now }
+{
+    line.trim_start_matches(' ')
+}
+
+/// The words of a line that have not been read; they have spaces between them.
+#[derive(Clone, Copy, Debug)]
 pub struct Words<'a> {
-    /// These words, in their order.
-    pub rest: slice::Iter<'a, &'a str>,
+    /// The part of the line that they stand in.
+    pub rest: &'a str,
 }
 
 impl<'a> Words<'a> {
-    ghost use Rattle.scripts.specs.Readings.{Reads, ReadsInRoom, left};
+    ghost use Rattle.scripts.specs.Readings.{Reads, ReadsInRoom, TakesFirst, left};
+
+    // The next word, if there is one.
+    pub(crate) fn next(&mut self) -> Option<&'a str>
+        ensures { TakesFirst result self.new (left self.old) }
+    {
+        while !self.rest.is_empty() {
+            let (word, behind) = self.rest.split_once(' ').unwrap_or((self.rest, ""));
+            if !word.is_empty() {
+                self.rest = behind;
+                return Some(word);
+            }
+            self.rest = past_spaces(behind);
+        }
+        None
+    }
 
     // The next word, which has to be there.
     fn wanted(&mut self) -> Result<&'a str, LineFault>
         ensures { Reads (λ w. w.now) result self.new (word Ok (left self.old)) }
     {
-        let word = self.rest.next().ok_or(LineFault::TooFewWords)?;
-        Ok(*word)
+        self.next().ok_or(LineFault::TooFewWords)
     }
 
     pub(crate) fn number(&mut self) -> Result<u16, LineFault>
