@@ -96,11 +96,26 @@ count $? 'cut of a book into itself: the book is not kept'
 grep -q 'part cannot be written' "$work/stderr" && [ ! -e "$work/part" ]
 count $? 'cut with no room for the part: no message, or it leaves a file'
 
+# Memory for the text of a script, and not for a table of its lines or of the words of a line: all lines are performed, and
+# those before a line that is no call.
+{ echo 'name 0 41'; head -c 20000000 /dev/zero | tr '\0' '\n'; } >"$work/lines"
+(ulimit -v 100000 && "$program" run "$work/lines" >"$work/stdout" 2>"$work/stderr")
+[ $? -eq 0 ] && [ "$(cat "$work/stdout")" = 'ok 0' ]
+count $? 'run of many lines with little memory: they are not performed'
+{ echo 'name 0 41'; printf freeze; yes ' a' | head -n 10000000 | tr -d '\n'; echo; } >"$work/words"
+(ulimit -v 100000 && "$program" run "$work/words" >"$work/stdout" 2>"$work/stderr")
+[ $? -eq 1 ] && [ "$(cat "$work/stdout")" = 'ok 0' ] && grep -q 'line 2: there are words too many' "$work/stderr"
+count $? 'run of a line with many words and little memory: another fault, or the line before it is not answered'
+
 # Little memory: the file is too large for it, or the book.
 (ulimit -v 40000 && "$program" check "$work/zeros" >"$work/stdout" 2>"$work/stderr")
 status=$?
 failed
 count $? 'check of a file that is larger than the memory: it does not fail with a message'
+(ulimit -v 170000 && "$program" run "$work/zeros" >"$work/stdout" 2>"$work/stderr")
+status=$?
+failed && grep -q 'winavulor: out of memory' "$work/stderr"
+count $? 'run of a file for which the memory is there once: it does not fail with a message'
 whole=0
 size=2800
 while [ "$size" -le 6000 ]; do

@@ -45,7 +45,7 @@ pub enum Failure {
     NoSuchName(String),
     #[error("marking is refused\n{told}", told = Told(.0.refusal()))]
     NotMarked(#[from] MarkFault),
-    #[error("no memory is left")]
+    #[error("out of memory")]
     Memory,
     #[error("the words of the command cannot be read: {0}")]
     Words(io::Error),
